@@ -1,0 +1,4 @@
+pub mod Format
+pub mod Lengths
+pub mod Made
+pub mod Spans
