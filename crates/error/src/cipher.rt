@@ -10,6 +10,7 @@ use code::report::ReportDisplay;
 use code::report::Reported;
 use std::alloc::AllocError;
 use std::alloc::Refused;
+use std::error::Error;
 use std::fmt;
 
 /// Why a cipher, a key or a nonce source refuses.
@@ -62,6 +63,8 @@ pub impl fmt::Display for CipherError as CipherErrorDisplay {
         write!(f, "{report}")
     }
 }
+
+pub impl Error for CipherError as CipherErrorError {}
 
 pub impl From<AllocError> for CipherError as CipherFromAlloc {
     ghost converts = { λ _ r. r ≡ OutOfMemory };

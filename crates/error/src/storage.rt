@@ -10,6 +10,7 @@ use code::report::ReportDisplay;
 use code::report::Reported;
 use std::alloc::AllocError;
 use std::alloc::Refused;
+use std::error::Error;
 use std::fmt;
 
 /// Why storage refuses.
@@ -47,6 +48,8 @@ pub impl fmt::Display for StorageError as StorageErrorDisplay {
         write!(f, "{report}")
     }
 }
+
+pub impl Error for StorageError as StorageErrorError {}
 
 pub impl From<AllocError> for StorageError as StorageFromAlloc {
     ghost converts = { λ _ r. r ≡ OutOfMemory };

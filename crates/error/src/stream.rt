@@ -18,6 +18,7 @@ use code::report::ReportDisplay;
 use code::report::Reported;
 use std::alloc::AllocError;
 use std::alloc::Refused;
+use std::error::Error;
 use std::fmt;
 
 /// An error of a lower layer, with the number of the block at which it came.
@@ -119,6 +120,8 @@ pub impl From<At<CipherError>> for StreamError as StreamFromCipher {
         StreamError::Cipher(lower)
     }
 }
+
+pub impl Error for StreamError as StreamErrorError {}
 
 pub impl From<AllocError> for StreamError as StreamFromAlloc {
     ghost converts = { λ _ r. r ≡ OutOfMemory };

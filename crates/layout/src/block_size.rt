@@ -29,14 +29,14 @@ impl BlockSize {
     pub fn ciphertext(self) -> u64
         ensures { λ r. ⌜ r ≡ self .bytes + 28 ⌝ }
     {
-        self.bytes as u64 + BLOCK_OVERHEAD
+        self.plaintext() as u64 + BLOCK_OVERHEAD
     }
 
     /// The eight bytes that a file of this block size begins with.
     pub fn header(self) -> [u8; 8]
         ensures { λ r. ⌜ r ≡ header (self .bytes) ⌝ }
     {
-        let [b0, b1, b2, b3] = self.bytes.to_le_bytes();
+        let [b0, b1, b2, b3] = self.plaintext().to_le_bytes();
         [0x41, 0x47, 0x53, 0x31, b0, b1, b2, b3]
     }
 }

@@ -1,12 +1,8 @@
 ghost use mathlib.Core.Path.{_≡_};
-ghost use Rattle.error.specs.Reports.{managerReport, rolePosition};
+ghost use Rattle.key_error.specs.Reports.{managerReport, rolePosition};
 ghost use Rattle.code.specs.Texts.{reportText};
-ghost use Rattle.error.specs.declared.manager.ManagerError.the-variants.{Cipher, Kms, OutOfMemory};
+ghost use Rattle.key_error.specs.declared.manager.ManagerError.the-variants.{Cipher, Kms, OutOfMemory};
 ghost use Rattle.std.specs.declared.option.Option.the-variants.{Some};
-use crate::cipher::CipherError;
-use crate::cipher::CipherErrorDebug;
-use crate::cipher::CipherErrorPartialEq;
-use crate::cipher::CipherErrorReported;
 use crate::kms::KmsError;
 use crate::kms::KmsErrorDebug;
 use crate::kms::KmsErrorPartialEq;
@@ -16,8 +12,13 @@ use code::code::Layer;
 use code::report::Report;
 use code::report::ReportDisplay;
 use code::report::Reported;
+use error::cipher::CipherError;
+use error::cipher::CipherErrorDebug;
+use error::cipher::CipherErrorPartialEq;
+use error::cipher::CipherErrorReported;
 use std::alloc::AllocError;
 use std::alloc::Refused;
+use std::error::Error;
 use std::fmt;
 
 /// Which of the two records of an unwrap or a wrap an error is about.
@@ -76,8 +77,8 @@ pub impl Reported for ManagerError as ManagerErrorReported {
             ManagerError::NoFreeSlot => (Code::NoFreeSlot, 0),
             ManagerError::Duplicate(role) => (Code::Duplicate, role.position()),
             ManagerError::OutsideLimits => (Code::OutsideLimits, 0),
-            ManagerError::Cipher(lower) => (lower.code(), 0),
-            ManagerError::Kms(lower) => (lower.code(), 1),
+            ManagerError::Cipher(e) => (e.code(), 0),
+            ManagerError::Kms(e) => (e.code(), 1),
             ManagerError::OutOfMemory => (Code::OutOfMemory, 0),
         };
         Report {
@@ -112,6 +113,8 @@ pub impl From<KmsError> for ManagerError as ManagerFromKms {
         ManagerError::Kms(lower)
     }
 }
+
+pub impl Error for ManagerError as ManagerErrorError {}
 
 pub impl From<AllocError> for ManagerError as ManagerFromAlloc {
     ghost converts = { λ _ r. r ≡ OutOfMemory };

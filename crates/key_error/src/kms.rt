@@ -1,19 +1,20 @@
 ghost use mathlib.Core.Path.{_≡_};
-ghost use Rattle.error.specs.Reports.{kmsReport};
+ghost use Rattle.key_error.specs.Reports.{kmsReport};
 ghost use Rattle.code.specs.Texts.{reportText};
-ghost use Rattle.error.specs.declared.kms.KmsError.the-variants.{Cipher, OutOfMemory};
+ghost use Rattle.key_error.specs.declared.kms.KmsError.the-variants.{Cipher, OutOfMemory};
 ghost use Rattle.std.specs.declared.option.Option.the-variants.{Some};
-use crate::cipher::CipherError;
-use crate::cipher::CipherErrorDebug;
-use crate::cipher::CipherErrorPartialEq;
-use crate::cipher::CipherErrorReported;
 use code::code::Code;
 use code::code::Layer;
 use code::report::Report;
 use code::report::ReportDisplay;
 use code::report::Reported;
+use error::cipher::CipherError;
+use error::cipher::CipherErrorDebug;
+use error::cipher::CipherErrorPartialEq;
+use error::cipher::CipherErrorReported;
 use std::alloc::AllocError;
 use std::alloc::Refused;
+use std::error::Error;
 use std::fmt;
 
 /// Why a key service refuses.
@@ -50,7 +51,7 @@ pub impl Reported for KmsError as KmsErrorReported {
             KmsError::NoFreeSlot => Code::NoFreeSlot,
             KmsError::Duplicate => Code::Duplicate,
             KmsError::OutsideLimits => Code::OutsideLimits,
-            KmsError::Cipher(lower) => lower.code(),
+            KmsError::Cipher(e) => e.code(),
             KmsError::OutOfMemory => Code::OutOfMemory,
         };
         Report {
@@ -77,6 +78,8 @@ pub impl From<CipherError> for KmsError as KmsFromCipher {
         KmsError::Cipher(lower)
     }
 }
+
+pub impl Error for KmsError as KmsErrorError {}
 
 pub impl From<AllocError> for KmsError as KmsFromAlloc {
     ghost converts = { λ _ r. r ≡ OutOfMemory };
