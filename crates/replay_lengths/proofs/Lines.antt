@@ -6,6 +6,7 @@ use native.Mathlib.Omega.{arith}
 use denote.Ref.{RefT}
 use lib.Chars.{codes}
 use lib.ListN.{length, getD}
+use Rattle.std.proofs.shelf.Decimals.{same-from-decimal}
 use Rattle.std.proofs.shelf.Fronts.{front-rest}
 use Rattle.std.proofs.shelf.Lists.{joined-more}
 use Rattle.std.proofs.shelf.Patterns.{SplitAt, split-after}
@@ -27,11 +28,21 @@ pub refusal : (bs code : List ℕ) → bs ≡ codes "refused " ++ code → (x : 
 refusal bs code e (Plaintext n) f h = let d = first-digit n bs f h in let r : getD bs 0 0 ≡ 114 = ap (λ s. getD s 0 0) e in absurd (omega arith)
 refusal bs code e (Refused n) f h = (n, f, sym (front-rest bs (codes "refused ") code e) ∙ front-rest bs (codes "refused ") (decimal n) h)
 
+-- nor is it that of a refusal if its number is too large for a code
+pub no-code : (bs code : List ℕ) (n : ℕ) → bs ≡ codes "refused " ++ code → n < 2 ^ 64 → code ≡ decimal n → (n < 2 ^ 8 → ⊥) → (x : Answer) → AnswerFits x → bs ≡ answerText x → ⊥
+no-code bs code n e h d l x f t =
+    let m = refusal bs code e x f t in
+    let k = same-from-decimal n (m .0) h (omega (arith, m .1)) (sym d ∙ m .2) in
+    l (omega (arith, k, m .1))
+
 -- a line is cut at its first space
 pub parts : (bs : List ℕ) (r : Option (RefT (List ℕ) × RefT (List ℕ))) → SplitAt 32 bs r → (x : Case) → CaseFits x → bs ≡ caseText x → Cases r ⊥ (λ p. (p .0 .now ≡ decimal (x .«file_length»)) × (p .1 .now ≡ answerText (x .answer)))
 parts bs r h x f e =
     split-after 32 bs (decimal (x .«file_length»)) (answerText (x .answer)) r h (omega arith) e
     (λ i l s. let d = all-digits (x .«file_length») i (f .0) l in omega arith)
+
+pub whole : (bs a b : List ℕ) (x : Case) → bs ≡ a ++ 32 ∷ b → a ≡ decimal (x .«file_length») → b ≡ answerText (x .answer) → bs ≡ caseText x
+whole bs a b x e ea eb = e ∙ ap (λ d. d ++ 32 ∷ b) ea ∙ ap (λ d. decimal (x .«file_length») ++ 32 ∷ d) eb
 
 -- one line more of the list, and its end
 pub list-more : (bs rest line after : List ℕ) (cs ds : List Case) (x : Case) → bs ≡ listText cs ++ rest → rest ≡ line ++ 10 ∷ after → line ≡ caseText x → ds ≡ cs ++ x ∷ [] → bs ≡ listText ds ++ after

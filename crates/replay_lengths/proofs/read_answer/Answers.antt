@@ -1,29 +1,39 @@
-use mathlib.Core.Path.{sym, _∙_, ap}
-use mathlib.Core.List.{_++_}
+use mathlib.Core.Path.{_≡_, sym, _∙_, ap}
+use mathlib.Core.Bool.{Bool, true, false}
+use mathlib.Core.List.{List, _++_}
+use Prim.Native.Nat.{ℕ, _^_, _<_}
 use native.Mathlib.Omega.{arith}
-use Prim.Native.Nat.{_^_, _<_}
 use lib.Chars.{codes}
-use Rattle.std.proofs.shelf.Decimals.{same-from-decimal}
+use lib.ListN.{drop}
 use Rattle.std.proofs.shelf.Numerals.{converted-decides}
-use Rattle.std.proofs.shelf.Tests.{true≢false}
-use Rattle.replay_lengths.proofs.Lines.{reads-none, refusal}
+use Rattle.std.proofs.shelf.Tests.{both-ways}
+use Rattle.std.specs.Results.{isOk}
+use Rattle.replay_lengths.proofs.Lines.{reads-none, refusal, no-code}
 use Rattle.replay_lengths.proofs.read_answer.Needs as need
+
+-- what `strip_prefix` left
+stripped : (bs code : List ℕ) (n : ℕ) → bs ≡ codes "refused " ++ drop n bs → code ≡ drop n bs → bs ≡ codes "refused " ++ code
+stripped bs code n e d = e ∙ ap (λ s. codes "refused " ++ s) (sym d)
+
+failed : (b : Bool) → false ≡ b → b ≡ true → ⊥
+failed b f t = both-ways b (sym f) t
 
 pub returns-in-Break-read-number : need.returns-in-Break-read-number
 returns-in-Break-read-number c =
     reads-none _ _ (c .args .text .now) (c .from-residual .ensures)
     (λ x f e.
     let s = c .in-Some .ensures tt .cases in
-    let m = refusal (c .args .text .now) (c .in-Some .code .now) (s .1 .1 ∙ ap (λ d. codes "refused " ++ d) (sym (s .2))) x f e in
+    let m = refusal (c .args .text .now) (c .in-Some .code .now) (stripped (c .args .text .now) (c .in-Some .code .now) (s .0) (s .1 .1) (s .2)) x f e in
     c .in-Break-read-number .ensures tt (m .0) (omega (arith, m .1)) (m .2))
 
 pub returns-in-Break-ok : need.returns-in-Break-ok
 returns-in-Break-ok c =
-    reads-none _ _ (c .args .text .now) (c .from-residual-in-Break-ok .ensures)
-    (λ x f e.
     let s = c .in-Some .ensures tt .cases in
-    let m = refusal (c .args .text .now) (c .in-Some .code .now) (s .1 .1 ∙ ap (λ d. codes "refused " ++ d) (sym (s .2))) x f e in
     let n = c .in-Continue-read-number .ensures tt in
-    let k = same-from-decimal (c .in-Continue-read-number .field-0) (m .0) (n .0) (omega (arith, m .1)) (sym (n .1) ∙ m .2) in
-    let l : c .in-Continue-read-number .field-0 < 2 ^ 8 = omega (arith, k, m .1) in
-    true≢false (sym (converted-decides (c .try-from .result) _ _ (c .try-from .ensures) .1 l) ∙ sym (c .in-Break-ok .ensures tt .test)))
+    let d = converted-decides (c .try-from .result) (c .in-Continue-read-number .field-0 < 2 ^ 8) (c .in-Continue-read-number .field-0) (c .try-from .ensures) in
+    reads-none _ _ (c .args .text .now) (c .from-residual-in-Break-ok .ensures)
+    (no-code (c .args .text .now) (c .in-Some .code .now) (c .in-Continue-read-number .field-0)
+    (stripped (c .args .text .now) (c .in-Some .code .now) (s .0) (s .1 .1) (s .2))
+    (n .0)
+    (n .1)
+    (λ l. failed (isOk (c .try-from .result)) (c .in-Break-ok .ensures tt .test) (d .1 l)))

@@ -1,10 +1,7 @@
-use mathlib.Core.Path.{_∙_, ap}
-use mathlib.Core.List.{_∷_, _++_}
 use native.Mathlib.Omega.{arith}
 use Rattle.std.proofs.shelf.Patterns.{split-parts}
 use Rattle.std.proofs.shelf.Results.{cases-at-none, cases-at-some}
-use Rattle.std.specs.Written.{decimal}
-use Rattle.replay_lengths.proofs.Lines.{reads-none, parts}
+use Rattle.replay_lengths.proofs.Lines.{reads-none, parts, whole}
 use Rattle.replay_lengths.proofs.read_case.Needs as need
 
 pub returns-in-Break-file-length : need.returns-in-Break-file-length
@@ -30,5 +27,7 @@ pub returns : need.returns
 returns c =
     let s = cases-at-some _ _ _ (c .in-Continue-file-length .was tt) (split-parts 32 (c .args .line .now) (c .split-once .result) (c .split-once .ensures .cases) (omega arith)) in
     let a = c .in-Continue-read-number .ensures tt in
-    let b = c .in-Continue-read-answer .ensures tt in
-    ((a .0, b .0), s .0 ∙ ap (λ d. d ++ 32 ∷ c .in-Continue-file-length .answer .now) (a .1) ∙ ap (λ d. decimal (c .in-Continue-read-number .field-0) ++ 32 ∷ d) (b .1))
+    let b = c .in-Continue-read-answer .ensures tt in (
+      (a .0, b .0),
+      whole (c .args .line .now) (c .in-Continue-file-length .file-length .now) (c .in-Continue-file-length .answer .now) (record { «file_length» = c .in-Continue-read-number .field-0; answer = c .in-Continue-read-answer .field-0 }) (s .0) (a .1) (b .1),
+    )

@@ -1,13 +1,7 @@
-use mathlib.Core.Path.{_≡_, sym, subst, _∙_}
-use mathlib.Core.Logic.{⊎-elim}
-use Prim.Native.Nat.{_^_, _<_, _≤_}
 use native.Mathlib.Omega.{arith}
-use lib.ListN.{length, getD}
 use Rattle.std.proofs.shelf.Patterns.{starts-char}
-use Rattle.std.proofs.shelf.Tests.{true≢false}
-use Rattle.std.specs.Written.{decimal}
-use Rattle.replay_lengths.specs.Listed.{Reads}
-use Rattle.replay_lengths.proofs.Numbers.{first-digit, leading-zero, reads-number}
+use Rattle.std.proofs.shelf.Tests.{both-ways}
+use Rattle.replay_lengths.proofs.Numbers.{first-digit, leading-zero, no-leading-zero, reads-number}
 use Rattle.replay_lengths.proofs.read_number.Needs as need
 use Rattle.replay_lengths.proofs.read_number.Needs.{then-starts-with·by·then-starts-with, then-starts-with·by·else-starts-with·then-text-gt1}
 
@@ -28,11 +22,8 @@ returns-then-starts-with c n h e =
 pub returns : need.returns
 returns c =
     let bs = c .args .text .now in
-    let p : getD bs 0 0 ≡ 43 → ⊥ = λ e.
-    true≢false (sym (starts-char 43 bs (c .starts-with .result) (c .starts-with .ensures .cases) (omega arith) (omega arith) .1 e) ∙ c .if-starts-with .left) in
-    let z : getD bs 0 0 ≡ 48 → length bs ≤ 1 = λ e.
-    ⊎-elim
-    (λ h. h .1)
-    (λ h. absurd (true≢false (sym (starts-char 48 bs (c .starts-with-else-starts-with .result) (c .starts-with-else-starts-with .ensures .cases) (omega arith) (omega arith) .1 e) ∙ h)))
-    (c .if-text-gt1 .either) in
-    subst (Reads (λ n. n < 2 ^ 64) decimal bs) (sym (c .ok .ensures .value)) (reads-number bs (c .parse .result) (c .parse .ensures .reads .0) p z)
+    let plus = starts-char 43 bs (c .starts-with .result) (c .starts-with .ensures .cases) (omega arith) (omega arith) in
+    let zero = starts-char 48 bs (c .starts-with-else-starts-with .result) (c .starts-with-else-starts-with .ensures .cases) (omega arith) (omega arith) in
+    reads-number bs (c .parse .result) (c .ok .result) (c .ok .ensures .value) (c .parse .ensures .reads .0)
+    (λ e. both-ways (c .starts-with .result) (c .if-starts-with .left) (plus .1 e))
+    (no-leading-zero bs (c .starts-with-else-starts-with .result) zero (c .if-text-gt1 .either))
