@@ -1,0 +1,9 @@
+pub mod Listed
+pub mod TableValues
+pub mod Bytes
+pub mod Words
+pub mod Columns
+pub mod Rounds
+pub mod Each
+pub mod Expansion
+pub mod Lengths

@@ -1,0 +1,2 @@
+pub mod Gctr
+pub mod Ivs

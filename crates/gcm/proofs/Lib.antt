@@ -1,0 +1,4 @@
+mod Gaps
+mod Laws
+mod Macs
+mod Under

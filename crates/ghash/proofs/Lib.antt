@@ -1,0 +1,3 @@
+mod Products
+mod Blocks
+pub mod Joins
