@@ -1,3 +1,5 @@
+pub mod Counters
 pub mod Draws
 pub mod Keys
+pub mod Recorded
 pub mod Seals
