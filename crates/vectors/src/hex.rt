@@ -1,7 +1,13 @@
+ghost use mathlib.Core.Path.{_≡_};
+ghost use Prim.Native.Nat.{_<_};
+ghost use Rattle.std.specs.Results.{isOk};
+ghost use Rattle.std.specs.Vec.{made};
 use std::alloc::Global;
 use std::error::AnyError;
 
-fn digit(b: u8) -> Result<u8, AnyError> {
+fn digit(b: u8) -> Result<u8, AnyError>
+    ensures { λ r. ⌜ made r (λ d. d < 16) ⌝ }
+{
     match b {
         b'0'..=b'9' => Ok(b - b'0'),
         b'a'..=b'f' => Ok(b - b'a' + 10),
@@ -10,7 +16,7 @@ fn digit(b: u8) -> Result<u8, AnyError> {
 }
 
 fn byte(high: u8, low: u8) -> Result<u8, AnyError> {
-    Ok((digit(high)? % 16) * 16 + digit(low)? % 16)
+    Ok(digit(high)? * 16 + digit(low)?)
 }
 
 /// The bytes that a word writes.
@@ -36,6 +42,8 @@ pub(crate) fn array<const N: usize>(bytes: &[u8]) -> Result<[u8; N], AnyError> {
     Ok(all)
 }
 
-pub(crate) fn expect(holds: bool, otherwise: &str) -> Result<(), AnyError> {
+pub(crate) fn expect(holds: bool, otherwise: &str) -> Result<(), AnyError>
+    ensures { λ r. ⌜ isOk r ≡ holds ⌝ }
+{
     if holds { Ok(()) } else { Err(otherwise.into()) }
 }
