@@ -1,13 +1,30 @@
 // The command-line tool: see `ags1 help`.
+use aead::counter::CounterNonces;
+use aead::counter::CounterNoncesSource;
+use aead::key::KeySize;
+use aead::key::SecureKey;
+use error::cipher::CipherErrorDebug;
+use error::cipher::CipherErrorDisplay;
+use error::cipher::CipherErrorError;
+use error::storage::StorageErrorDebug;
+use error::storage::StorageErrorDisplay;
+use error::storage::StorageErrorError;
 use error::stream::StreamErrorDebug;
 use error::stream::StreamErrorDisplay;
 use error::stream::StreamErrorError;
+use gcm::aes_gcm::AesGcm;
+use gcm::aes_gcm::AesGcmAead;
 use layout::layout::FileLayout;
 use layout::lengths::plaintext_length;
 use layout::places::block_aad;
 use layout::size::BlockSize;
+use sealed_text::open::open_text;
+use sealed_text::seal::seal_text;
 use std::env;
 use std::error::AnyError;
+use storage::memory::MemoryFile;
+use storage::one_memory::MemoryFileWrite;
+use storage::sink::FileWrite;
 use tool::command::Command;
 use tool::command::HELP;
 use tool::parse::parse;
@@ -22,6 +39,8 @@ const LIST_LENGTH: u64 = 2_500_000;
 const BLOCK_SIZE: u32 = 1_048_576;
 
 const PREFIX: &[u8; 5] = b"cargo";
+
+const ENTRY: &[u8; 20] = b"REEFER 40FT, BAY 12A";
 
 fn print_bytes(rt: &LibcRuntime, label: &str, bytes: &[u8]) -> Result<(), AnyError> {
     print!(rt, "{label}")?;
@@ -66,7 +85,48 @@ fn print_cut(rt: &LibcRuntime, file_length: u64) -> Result<(), AnyError> {
     Ok(())
 }
 
-// The plan of one encrypted cargo list.
+// One entry of the list, sealed under a counter's nonce and opened again; and with one bit changed, refused.
+fn print_sealed(rt: &LibcRuntime) -> Result<(), AnyError> {
+    let mut memory = [9u8; 32];
+    let size = KeySize::of(16, memory.len())?;
+    let key = SecureKey::new(&mut memory, size);
+    let mut nonces = CounterNonces::new([0; 4], 1);
+    let mut sealed = [0u8; 48];
+    let length = seal_text(&AesGcm, &key, &mut nonces, PREFIX, ENTRY, &mut sealed)?;
+    println!(rt, "An entry of 20 bytes is sealed to {length}:")?;
+    print_bytes(rt, " ", &sealed)?;
+    let mut text = [0u8; 20];
+    let opened = open_text(&AesGcm, &key, PREFIX, &sealed, &mut text)?;
+    println!(
+        rt,
+        "It opens to the {opened} bytes that were sealed: {}.",
+        text == *ENTRY
+    )?;
+    sealed[20] ^= 1;
+    match open_text(&AesGcm, &key, PREFIX, &sealed, &mut text) {
+        Ok(_) => println!(rt, "With one bit changed it opens.")?,
+        Err(refusal) => println!(rt, "With one bit changed it is refused: {refusal}.")?,
+    }
+    Ok(())
+}
+
+// A sink that takes a header, and has no room for a block after it.
+fn print_full(rt: &LibcRuntime, size: BlockSize) -> Result<(), AnyError> {
+    let mut file = MemoryFile::new(rt.alloc(), 40)?;
+    file.write(&size.header())?;
+    match file.write(&[0; 48]) {
+        Ok(()) => println!(rt, "A memory of 40 bytes takes a header and 48 bytes.")?,
+        Err(refusal) => println!(
+            rt,
+            "A memory of 40 bytes takes a header and no 48 bytes more: {refusal}."
+        )?,
+    }
+    let taken = file.as_slice().len();
+    println!(rt, "It still holds {taken} bytes.")?;
+    Ok(())
+}
+
+// The plan of one encrypted cargo list, one entry of it sealed, and storage that is full.
 fn account(rt: &LibcRuntime) -> Result<(), AnyError> {
     println!(
         rt,
@@ -82,7 +142,9 @@ fn account(rt: &LibcRuntime) -> Result<(), AnyError> {
     print_cut(rt, layout.file_length())?;
     print_cut(rt, 2_097_244)?;
     print_cut(rt, 2_097_243)?;
-    print_cut(rt, 7)
+    print_cut(rt, 7)?;
+    print_sealed(rt)?;
+    print_full(rt, size)
 }
 
 fn run(rt: &LibcRuntime) -> Result<(), AnyError> {

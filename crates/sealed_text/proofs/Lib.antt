@@ -1,0 +1,3 @@
+pub mod Frames
+mod Opens
+mod Writes
