@@ -22,9 +22,12 @@ use sealed_text::open::open_text;
 use sealed_text::seal::seal_text;
 use std::env;
 use std::error::AnyError;
+use storage::limit::Limit;
+use storage::limit::LimitFileWrite;
 use storage::memory::MemoryFile;
 use storage::one_memory::MemoryFileWrite;
 use storage::sink::FileWrite;
+use storage::sink::LentFileWrite;
 use tool::command::Command;
 use tool::command::HELP;
 use tool::parse::parse;
@@ -110,16 +113,22 @@ fn print_sealed(rt: &LibcRuntime) -> Result<(), AnyError> {
     Ok(())
 }
 
-// A sink that takes a header, and has no room for a block after it.
+// A memory under a limit, which takes a header and has no room for a block after it.
 fn print_full(rt: &LibcRuntime, size: BlockSize) -> Result<(), AnyError> {
-    let mut file = MemoryFile::new(rt.alloc(), 40)?;
-    file.write(&size.header())?;
-    match file.write(&[0; 48]) {
-        Ok(()) => println!(rt, "A memory of 40 bytes takes a header and 48 bytes.")?,
-        Err(refusal) => println!(
+    let mut file = MemoryFile::new(rt.alloc(), 64)?;
+    let mut limit = Limit::new(&mut file, 40);
+    limit.write(&size.header())?;
+    match limit.write(&[0; 48]) {
+        Ok(()) => println!(
             rt,
-            "A memory of 40 bytes takes a header and no 48 bytes more: {refusal}."
+            "Under a limit of 40 bytes a memory takes a header and 48 bytes."
         )?,
+        Err(refusal) => {
+            println!(
+                rt,
+                "Under a limit of 40 bytes a memory takes a header and no 48 bytes more: {refusal}."
+            )?
+        }
     }
     let taken = file.as_slice().len();
     println!(rt, "It still holds {taken} bytes.")?;

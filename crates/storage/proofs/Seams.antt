@@ -1,5 +1,5 @@
 -- What lies across the seam of two memories.
-use mathlib.Core.Path.{_≡_, refl, sym, _∙_, ap}
+use mathlib.Core.Path.{_≡_, sym, _∙_, ap}
 use mathlib.Core.Bool.{Bool, true, _&&_}
 use mathlib.Core.List.{List, [], _++_}
 use mathlib.Core.Logic.{⊎-elim}
@@ -8,7 +8,7 @@ use native.Mathlib.Omega.{arith}
 use borrow.Rule.Slice.PartMut.{putMid, postOf}
 use lib.Dec.{leb}
 use lib.ListN.{length, take, drop}
-use Rattle.std.proofs.shelf.Lists.{length-append, length-take, length-drop, append-assoc, append-nil, nil-from-length, take-append-drop, take-at, drop-at, drop-all}
+use Rattle.std.proofs.shelf.Lists.{length-take, length-drop, append-assoc, append-nil, nil-from-length, take-append-drop, take-at, drop-at, drop-all}
 use Rattle.std.proofs.shelf.Tests.{cases-lt}
 use Rattle.std.proofs.shelf.Ways.{tells}
 use Rattle.storage.specs.Answers.{range}
@@ -16,7 +16,7 @@ use Rattle.storage.specs.Ports.{Port, takes, added, inTurn}
 use Rattle.storage.proofs.Ranges.{length-range, range-row}
 
 -- the front of a write goes to the first, the rest to the second
-pub joined : (F S bs : List ℕ) (room head : ℕ) → head ≡ min (length bs) room → (0 < room → length S ≡ 0)
+joined : (F S bs : List ℕ) (room head : ℕ) → head ≡ min (length bs) room → (0 < room → length S ≡ 0)
     → (F ++ take head bs) ++ (S ++ drop head bs) ≡ (F ++ S) ++ bs
 joined F S bs room head e t =
     ⊎-elim

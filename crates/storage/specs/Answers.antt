@@ -16,8 +16,3 @@ range at n bs = take n (drop at bs)
 abbrev pub Answered : List ℕ → ℕ → List ℕ → Result (Unit {0}) StorageError → List ℕ → Type 0
 Answered bs at before (Ok _) after = (at + length before ≤ length bs) × (after ≡ range at (length before) bs)
 Answered bs at before (Err e) after = (length bs < at + length before) × (e ≡ SourceRefused) × (after ≡ before)
-
--- the making of a window from one place to another: refused exactly where the source does not answer that range
-abbrev pub Windowed : {W : Type 0} → List ℕ → ℕ → ℕ → Result W StorageError → (W → Type 0) → Type 0
-Windowed bs from to (Ok w) Is = (from ≤ to) × (to ≤ length bs) × Is w
-Windowed bs from to (Err e) Is = ((from ≤ to → to ≤ length bs → ⊥)) × (e ≡ SourceRefused)

@@ -1,7 +1,7 @@
 -- What a sink means: the bytes that it took, how many more it will take, and whether it is open.
 use mathlib.Core.Bool.{Bool, true, false, _&&_}
 use mathlib.Core.List.{List, [], _++_}
-use Prim.Native.Nat.{ℕ, _+_, _-_, min}
+use Prim.Native.Nat.{ℕ, _+_, _-_}
 use lib.Dec.{leb}
 use lib.ListN.{length}
 
@@ -25,10 +25,6 @@ added p bs = record { taken = p .taken ++ bs; room = p .room - length bs; isOpen
 -- the sink after a close
 abbrev pub shut : Port → Port
 shut p = record { taken = p .taken; room = p .room; isOpen = false }
-
--- the sink under a limit: the lesser number holds
-abbrev pub limited : Port → ℕ → Port
-limited p n = record { taken = p .taken; room = min (p .room) n; isOpen = p .isOpen }
 
 -- two sinks that are filled in turn, open while both are
 abbrev pub inTurn : Port → Port → Port

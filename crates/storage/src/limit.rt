@@ -1,5 +1,7 @@
 ghost use mathlib.Core.Path.{_≡_};
-ghost use Rattle.storage.specs.Ports.{limited};
+ghost use Rattle.storage.specs.Limits.{limitPort, Passed};
+ghost use Rattle.storage.specs.Ports.{shut};
+ghost use Rattle.storage.specs.Writes.{Written};
 use crate::sink::FileWrite;
 use error::storage::StorageError;
 
@@ -11,7 +13,7 @@ pub struct Limit<S> {
 }
 
 impl<S> Limit<S> {
-    /// At most `limit` bytes into `inner`. A sink that is lent, `&mut S`, is a sink too.
+    /// At most `limit` bytes into `inner`, which may also be a sink that is lent, `&mut S`.
     pub fn new(inner: S, limit: u64) -> Limit<S>
         ensures { λ r. ⌜ (r .inner ≡ inner) × (r .left ≡ limit) ⌝ }
     {
@@ -28,11 +30,15 @@ impl<S> Limit<S> {
 }
 
 pub impl<S: FileWrite> FileWrite for Limit<S> as LimitFileWrite {
-    ghost port = { λ l. limited (S·FileWrite .port (l .inner)) (l .left) };
+    ghost port = { limitPort (S·FileWrite .port) };
 
     ghost loans = { λ l. S·FileWrite .loans (l .inner) };
 
-    fn write(&mut self, bytes: &[u8]) -> Result<(), StorageError> {
+    fn write(&mut self, bytes: &[u8]) -> Result<(), StorageError>
+        ensures written { λ r. ⌜ Written (limitPort (S·FileWrite .port) (now (self .entry))) (now (bytes .entry)) r (limitPort (S·FileWrite .port) (now (self .exit))) ⌝ }
+        ensures lent { λ _. ⌜ S·FileWrite .loans (now (self .exit) .inner) ≡ S·FileWrite .loans (now (self .entry) .inner) ⌝ }
+        ensures passed { λ r. ⌜ Passed (S·FileWrite .port) (now (self .entry)) (now (bytes .entry)) r (now (self .exit)) ⌝ }
+    {
         let n = bytes.len() as u64;
         if n > self.left {
             return Err(StorageError::BlockNotTaken);
@@ -42,7 +48,11 @@ pub impl<S: FileWrite> FileWrite for Limit<S> as LimitFileWrite {
         Ok(())
     }
 
-    fn close(&mut self) {
+    fn close(&mut self)
+        ensures closed { λ _. ⌜ limitPort (S·FileWrite .port) (now (self .exit)) ≡ shut (limitPort (S·FileWrite .port) (now (self .entry))) ⌝ }
+        ensures lent { λ _. ⌜ S·FileWrite .loans (now (self .exit) .inner) ≡ S·FileWrite .loans (now (self .entry) .inner) ⌝ }
+        ensures passed { λ _. ⌜ (S·FileWrite .port (now (self .exit) .inner) ≡ shut (S·FileWrite .port (now (self .entry) .inner))) × (now (self .exit) .left ≡ now (self .entry) .left) ⌝ }
+    {
         self.inner.close();
     }
 }

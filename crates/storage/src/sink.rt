@@ -14,7 +14,8 @@ pub trait FileWrite {
     // the names of the loans that it holds, which no call changes: so a lender knows what came of its own
     ghost loans: { Self → List ℕ } = { λ _. [] };
 
-    /// Takes all of the bytes exactly where it is open and has the room for them. A refused write changes nothing.
+    /// Takes all of the bytes exactly where it is open and has the room for them. A refused write is `BlockNotTaken`, and changes
+    /// nothing.
     fn write(&mut self, bytes: &[u8]) -> Result<(), StorageError>
         ensures written { λ r. ⌜ Written (port (now (self .entry))) (now (bytes .entry)) r (port (now (self .exit))) ⌝ }
         ensures lent { λ _. ⌜ loans (now (self .exit)) ≡ loans (now (self .entry)) ⌝ };

@@ -10,8 +10,8 @@ pub trait FileRead {
     ghost bytes: { Self → List ℕ };
 
     /// The bytes from `at` on, as many as `into` holds: the memory lent is the length of the range, so that it cannot be too
-    /// small; a smaller one asks for less. Answered exactly where the range ends within the source. A refusal leaves `into`
-    /// as it was.
+    /// small; a smaller one asks for less. Answered exactly where the range ends within the source. A refusal is
+    /// `SourceRefused`, and leaves `into` as it was.
     fn read(&self, at: u64, into: &mut [u8]) -> Result<(), StorageError>
         ensures { λ r. ⌜ Answered (bytes (now (self .entry))) at (now (into .entry)) r (now (into .exit)) ⌝ };
 }

@@ -44,8 +44,9 @@ impl UsageError {
 pub const HELP: &str = "ags1: encrypted files in the AGS1 format
 
   ags1
-      Runs one task from beginning to end and prints an account of it:
-      the plan of an encrypted cargo list.
+      Runs one task from beginning to end and prints an account of it: the
+      plan of an encrypted cargo list, one entry of it sealed and opened again,
+      and storage that is full.
 
   ags1 length BLOCK_SIZE FILE_LENGTH
       Prints the plaintext length of an encrypted file of FILE_LENGTH bytes

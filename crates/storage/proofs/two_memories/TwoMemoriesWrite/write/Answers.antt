@@ -1,4 +1,4 @@
-use mathlib.Core.Path.{_≡_, refl, sym, _∙_, ap}
+use mathlib.Core.Path.{refl, sym, _∙_, ap}
 use native.Mathlib.Nat.{sub-zero}
 use lib.ListN.{take}
 use Rattle.std.proofs.shelf.Lists.{take-rest}

@@ -1,6 +1,6 @@
 use mathlib.Core.Path.{_≡_, refl, sym, _∙_, ap}
 use mathlib.Core.List.{[]}
-use Prim.Native.Nat.{_+_, _-_, _<_, _≤_}
+use Prim.Native.Nat.{_+_, _-_, _<_}
 use native.Mathlib.Omega.{arith}
 use lib.ListN.{length, take, drop}
 use Rattle.std.proofs.shelf.Lists.{nil-from-length}
@@ -14,7 +14,7 @@ returns-then-at-size g c =
     let h : m < c .args .at + length (c .args .into .now) =
     elim (c .then-at-size .came) [ then-at-size·by·then-at-size w ↦ omega arith | then-at-size·by·else-at-size·then-n-size w ↦ omega arith ] in
     let l = length-range (g .R·FileRead .bytes (c .args .self .now .source)) (c .args .self .now .from) m in
-    (omega arith, refl, refl)
+    (omega arith, refl, refl {a = c .args .into .now})
 
 pub returns-then-at-n-eq0 : need.returns-then-at-n-eq0
 returns-then-at-n-eq0 g c =
