@@ -6,9 +6,9 @@ ghost use Rattle.aes.specs.Cipher.{xorBytes};
 ghost use Rattle.aes.specs.Schedules.{scheduled};
 ghost use Rattle.ctr.specs.Gctr.{stream, gctr as gctrOf};
 ghost use Rattle.ctr.specs.Ivs.{ivBytes};
+use crate::iv::Iv;
 use aes::block::Block;
 use aes::schedule::Schedule;
-use crate::iv::Iv;
 
 /// The block of the keystream at a counter: the cipher of the IV followed by the counter.
 pub fn keystream(schedule: &Schedule, iv: Iv, counter: u32) -> [u8; 16]

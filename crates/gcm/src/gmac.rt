@@ -3,12 +3,12 @@ ghost use mathlib.Core.List.{[], _++_};
 ghost use Rattle.aes.specs.Aes.{aes};
 ghost use Rattle.aead.specs.Seals.{Opened};
 ghost use Rattle.gcm.specs.Gcm.{tag as tagOf, gmac as gmacOf};
+use crate::tag::same;
+use crate::tag::tag_joined;
 use aead::aead::Aead;
 use aead::key::SecureKey;
 use aead::nonce::Nonce;
 use aes::schedule::Schedule;
-use crate::tag::same;
-use crate::tag::tag_joined;
 use ctr::iv::Iv;
 use error::cipher::CipherError;
 

@@ -1,8 +1,8 @@
 ghost use mathlib.Core.Path.{_≡_};
 ghost use Rattle.layout.specs.Lengths.{measured, plainLength, LengthLaw};
 ghost use Rattle.layout.specs.Spans.{lengthAnswer};
-use code::report::Reported;
 use crate::layout::FileLayout;
+use code::report::Reported;
 use error::stream::StreamErrorReported;
 
 /// What a C program is told of a length: code 0 and the two numbers, or the code of the refusal and zeros.

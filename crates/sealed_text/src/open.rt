@@ -1,8 +1,8 @@
 ghost use Rattle.aead.specs.Seals.{keyOf};
 ghost use Rattle.sealed_text.specs.Opening.{TextOpened, SealedOpens};
+use crate::frame::OVERHEAD;
 use aead::aead::Aead;
 use aead::key::SecureKey;
-use crate::frame::OVERHEAD;
 use error::cipher::CipherError;
 
 /// Opens a sealed text into the front of `out` and answers the plaintext's length. Refused where `sealed` is too short for a nonce

@@ -1,10 +1,10 @@
 ghost use Rattle.aead.specs.Seals.{keyOf};
 ghost use Rattle.sealed_text.specs.Sealing.{TextSealed};
+use crate::frame::MAX_LENGTH;
+use crate::frame::OVERHEAD;
 use aead::aead::Aead;
 use aead::key::SecureKey;
 use aead::source::NonceSource;
-use crate::frame::MAX_LENGTH;
-use crate::frame::OVERHEAD;
 use error::cipher::CipherError;
 
 /// Seals a text under the next nonce into the front of `out`, as nonce, ciphertext and tag, and answers their length. Refused

@@ -1,7 +1,7 @@
-use aes::block::Block;
-use aes::schedule::Schedule;
 use crate::hex::array;
 use crate::hex::expect;
+use aes::block::Block;
+use aes::schedule::Schedule;
 use std::error::AnyError;
 
 pub(crate) fn check_block(key: &[u8], plaintext: &[u8], ciphertext: &[u8]) -> Result<(), AnyError> {

@@ -1,12 +1,12 @@
+use crate::hex::array;
+use crate::hex::expect;
+use crate::hex::hex;
 use aead::aead::Aead;
 use aead::key::KeySize;
 use aead::key::SecureKey;
 use aead::recorded::RecordedNonces;
 use aead::recorded::RecordedNoncesSource;
 use aead::source::NonceSource;
-use crate::hex::array;
-use crate::hex::expect;
-use crate::hex::hex;
 use error::cipher::CipherErrorDebug;
 use error::cipher::CipherErrorDisplay;
 use error::cipher::CipherErrorError;
