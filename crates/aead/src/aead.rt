@@ -13,7 +13,7 @@ pub trait Aead {
 
     /// Seals the text where it lies, spends the nonce, and gives the tag.
     fn seal(&self, key: &SecureKey, nonce: Nonce, aad: &[u8], text: &mut [u8]) -> [u8; 16]
-        ensures { record { text = text.exit.now; tag = result } ≡ sealed self.now (key_of key.now) nonce.bytes aad.now text.entry.now };
+        ensures { record { text = text.new; tag = result } ≡ sealed self.now (key_of key.now) nonce.bytes aad.now text.old };
 
     /// Opens the text where it lies. A refusal leaves it as it was.
     fn open(
@@ -24,7 +24,7 @@ pub trait Aead {
         text: &mut [u8],
         tag: &[u8; 16],
     ) -> Result<(), CipherError>
-        ensures { Opened (sealed self.now (key_of key.now) nonce.now aad.now) (record { text = text.entry.now; tag = tag.now }) text.entry.now result text.exit.now };
+        ensures { Opened (sealed self.now (key_of key.now) nonce.now aad.now) (record { text = text.old; tag = tag.now }) text.old result text.new };
 
     /// Opens a borrowed text into the front of `out`, which is refused where it is shorter than the text. A refusal leaves `out` as it was.
     fn open_into(
@@ -36,7 +36,7 @@ pub trait Aead {
         tag: &[u8; 16],
         out: &mut [u8],
     ) -> Result<(), CipherError>
-        ensures { OpenedInto (sealed self.now (key_of key.now) nonce.now aad.now) (record { text = text.entry.now; tag = tag.now }) out.old result out.new };
+        ensures { OpenedInto (sealed self.now (key_of key.now) nonce.now aad.now) (record { text = text.now; tag = tag.now }) out.old result out.new };
 
     ghost keeps: { (s : Self) (k n a t : List ℕ) → length (sealed s k n a t).text ≡ length t };
 

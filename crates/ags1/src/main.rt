@@ -1,6 +1,7 @@
 // The command-line tool: see `ags1 help`.
 use aead::counter::CounterNonces;
 use aead::key::{KeySize, SecureKey};
+use anyhow::anyhow;
 use gcm::aes_gcm::AesGcm;
 use layout::layout::FileLayout;
 use layout::lengths::plaintext_length;
@@ -9,6 +10,7 @@ use layout::size::BlockSize;
 use sealed_text::open::open_text;
 use sealed_text::seal::seal_text;
 use std::env;
+use std::process::ExitCode;
 use storage::limit::Limit;
 use storage::memory::MemoryFile;
 use storage::sink::FileWrite;
@@ -135,15 +137,20 @@ fn run(rt: &HostRuntime) -> anyhow::Result<()> {
             let length = plaintext_length(file_length, block_size)?;
             println!(rt; "{length}")?;
         }
-        Err(usage) => return Err(usage.message().into()),
+        Err(usage) => {
+            let message = usage.message();
+            return Err(anyhow!("{message}"));
+        }
     }
     Ok(())
 }
 
-fn main(rt: HostRuntime) -> anyhow::Result<()> {
-    let done = run(&rt);
-    if let Err(e) = &done {
-        eprintln!(rt; "ags1: {e}")?;
+fn main(rt: HostRuntime) -> ExitCode {
+    match run(&rt) {
+        Ok(()) => ExitCode::SUCCESS,
+        Err(e) => {
+            let _ = eprintln!(rt; "ags1: {e}");
+            ExitCode::FAILURE
+        }
     }
-    done
 }

@@ -22,7 +22,7 @@ pub struct AesGcm;
 
 // Seals under a schedule.
 fn seal_under(schedule: &Schedule, iv: Iv, aad: &[u8], text: &mut [u8]) -> [u8; 16]
-    ensures { record { text = text.exit.now; tag = result } ≡ gcm_of (scheduled schedule.now) (iv_bytes iv) aad.now text.entry.now }
+    ensures { record { text = text.new; tag = result } ≡ gcm_of (scheduled schedule.now) (iv_bytes iv) aad.now text.old }
 {
     gctr(schedule, iv, 2, text);
     tag_of(schedule, iv, aad, text)
@@ -36,7 +36,7 @@ fn open_under(
     text: &mut [u8],
     tag: &[u8; 16],
 ) -> Result<(), CipherError>
-    ensures { Opened (gcm_of (scheduled schedule.now) (iv_bytes iv) aad.now) (record { text = text.entry.now; tag = tag.now }) text.entry.now result text.exit.now }
+    ensures { Opened (gcm_of (scheduled schedule.now) (iv_bytes iv) aad.now) (record { text = text.old; tag = tag.now }) text.old result text.new }
 {
     let real = tag_of(schedule, iv, aad, text);
     if !same(&real, tag) {
@@ -55,7 +55,7 @@ fn open_into_under(
     tag: &[u8; 16],
     out: &mut [u8],
 ) -> Result<(), CipherError>
-    ensures { OpenedInto (gcm_of (scheduled schedule.now) (iv_bytes iv) aad.now) (record { text = text.entry.now; tag = tag.now }) out.old result out.new }
+    ensures { OpenedInto (gcm_of (scheduled schedule.now) (iv_bytes iv) aad.now) (record { text = text.now; tag = tag.now }) out.old result out.new }
 {
     if out.len() < text.len() {
         return Err(CipherError::MemoryTooSmall);

@@ -34,7 +34,7 @@ fn check(
     text: &[u8],
     tag: &[u8; 16],
 ) -> Result<(), CipherError>
-    ensures { Opened (gmac_of (aes key.now) nonce.now aad.now) (record { text = text.entry.now; tag = tag.now }) text.entry.now result text.entry.now }
+    ensures { Opened (gmac_of (aes key.now) nonce.now aad.now) (record { text = text.now; tag = tag.now }) text.now result text.now }
 {
     let real = mac(key, nonce, aad, text);
     if !same(&real, tag) {

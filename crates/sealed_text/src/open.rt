@@ -15,8 +15,8 @@ pub fn open_text<A: Aead>(
     sealed: &[u8],
     out: &mut [u8],
 ) -> Result<usize, CipherError>
-    ensures answer { TextOpened (A.Aead.sealed cipher.now (key_of key.now)) aad.now sealed.now out.old result out.new }
-    ensures back { SealedOpens (A.Aead.sealed cipher.now (key_of key.now)) aad.now sealed.now out.old result out.new }
+    ensures answer { TextOpened (A.sealed cipher.now (key_of key.now)) aad.now sealed.now out.old result out.new }
+    ensures back { SealedOpens (A.sealed cipher.now (key_of key.now)) aad.now sealed.now out.old result out.new }
 {
     let n = sealed.len();
     if n < OVERHEAD {

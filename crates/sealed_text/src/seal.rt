@@ -18,7 +18,7 @@ pub fn seal_text<A: Aead, S: NonceSource>(
     text: &[u8],
     out: &mut [u8],
 ) -> Result<usize, CipherError>
-    ensures { TextSealed (sealed cipher.now (key_of key.now)) aad.now text.now out.old (left nonces.old) result out.new (left nonces.new) }
+    ensures { TextSealed (A.sealed cipher.now (key_of key.now)) aad.now text.now out.old (S.left nonces.old) result out.new (S.left nonces.new) }
 {
     let n = text.len();
     if n > MAX_LENGTH || aad.len() > MAX_LENGTH {

@@ -7,7 +7,7 @@ use error::storage::StorageError;
 
 /// Writes `a` and then `b`. Where `a` is refused, `b` is not tried.
 pub fn write_both<S: FileWrite>(sink: &mut S, a: &[u8], b: &[u8]) -> Result<(), StorageError>
-    ensures { WrittenBoth (port sink.old) a.now b.now result (port sink.new) }
+    ensures { WrittenBoth (S.port sink.old) a.now b.now result (S.port sink.new) }
 {
     sink.write(a)?;
     sink.write(b)
@@ -20,7 +20,7 @@ pub fn copy<R: FileRead, S: FileWrite>(
     through: &mut [u8],
     sink: &mut S,
 ) -> Result<(), StorageError>
-    ensures { Copied (bytes source.now) at through.old (port sink.old) result through.new (port sink.new) }
+    ensures { Copied (R.bytes source.now) at through.old (S.port sink.old) result through.new (S.port sink.new) }
 {
     source.read(at, through)?;
     sink.write(through)

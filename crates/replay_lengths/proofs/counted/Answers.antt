@@ -6,11 +6,11 @@ use Rattle.replay_lengths.proofs.Tallies.{kind, mark, kind_differing, tallied_mo
 use Rattle.replay_lengths.proofs.counted.Goals as goal
 use Rattle.replay_lengths.proofs.counted.Goals.{Joined-case, in-Plaintext, in-Refused, then-not-agrees, else-not-agrees}
 
-pub overflow-add-tally : goal.overflow-add-tally
-overflow-add-tally c = omega (arith, (tallied_le c.loop-case.tally c.args.cases.now c.loop-case.case-index c.loop-case.invariant).0)
+pub overflow_add-tally : goal.overflow_add-tally
+overflow_add-tally c = omega (arith, (tallied_le c.loop-case.tally c.args.cases.now c.loop-case.case-index c.loop-case.invariant).0)
 
-pub overflow-add-tally-in-Refused : goal.overflow-add-tally-in-Refused
-overflow-add-tally-in-Refused c = omega (arith, (tallied_le c.loop-case.tally c.args.cases.now c.loop-case.case-index c.loop-case.invariant).1)
+pub overflow_add-tally-in-Refused : goal.overflow_add-tally-in-Refused
+overflow_add-tally-in-Refused c = omega (arith, (tallied_le c.loop-case.tally c.args.cases.now c.loop-case.case-index c.loop-case.invariant).1)
 
 -- the case of the turn
 abbrev item : Joined-case → Case
@@ -23,9 +23,9 @@ matched c =
       | in-Refused w ↦ w.tally-is ∙ ap (kind c.loop-case.tally) (sym w.in-Refused.is)
     ]
 
-pub overflow-add-tally-then-not-agrees : goal.overflow-add-tally-then-not-agrees
-overflow-add-tally-then-not-agrees c =
-    let j = (goal.at.overflow-add-tally-then-not-agrees c).Joined-case in
+pub overflow_add-tally-then-not-agrees : goal.overflow_add-tally-then-not-agrees
+overflow_add-tally-then-not-agrees c =
+    let j = (goal.at.overflow_add-tally-then-not-agrees c).Joined-case in
     let m = ap (λ t. t.differing) (matched j) ∙ kind_differing c.loop-case.tally (item j).answer in
     omega (arith, m, (tallied_le c.loop-case.tally c.args.cases.now c.loop-case.case-index c.loop-case.invariant).2)
 

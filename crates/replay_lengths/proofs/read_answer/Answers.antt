@@ -11,22 +11,22 @@ stripped bs code n e d = e ∙ ap (λ s. codes "refused " ++ s) (sym d)
 failed : (b : Bool) → false ≡ b → b ≡ true → ⊥
 failed b f t = both_ways b (sym f) t
 
-pub returns-in-err-read-number : goal.returns-in-err-read-number
-returns-in-err-read-number c =
-    reads_none _ _ c.args.text.now c.from-residual.ensures
+pub returns-in_err-read_number-in-Some : goal.returns-in_err-read_number-in-Some
+returns-in_err-read_number-in-Some c =
+    reads_none _ _ c.args.text.now c.from_residual.ensures
     (λ x f e.
     let s = c.in-Some.ensures.cases in
     let m = refusal c.args.text.now c.in-Some.code.now (stripped c.args.text.now c.in-Some.code.now s.0 s.1.1 s.2) x f e in
-    c.in-err-read-number.ensures m.0 (omega (arith, m.1)) m.2)
+    c.in_err-read_number-in-Some.ensures m.0 (omega (arith, m.1)) m.2)
 
-pub returns-in-err-ok : goal.returns-in-err-ok
-returns-in-err-ok c =
+pub returns-in_err-ok-in-Some : goal.returns-in_err-ok-in-Some
+returns-in_err-ok-in-Some c =
     let s = c.in-Some.ensures.cases in
-    let n = c.in-ok-read-number.ensures in
-    let d = OkIff-decides c.try-from.result (c.in-ok-read-number.field-0 < 2 ^ 8) c.in-ok-read-number.field-0 c.try-from.ensures in
-    reads_none _ _ c.args.text.now c.from-residual-in-err-ok.ensures
-    (no_code c.args.text.now c.in-Some.code.now c.in-ok-read-number.field-0
+    let n = c.in_ok-read_number-in-Some.ensures in
+    let d = OkIff-decides c.try_from.result (c.in_ok-read_number-in-Some.field-0 < 2 ^ 8) c.in_ok-read_number-in-Some.field-0 c.try_from.ensures in
+    reads_none _ _ c.args.text.now c.from_residual-in_err-ok-in-Some.ensures
+    (no_code c.args.text.now c.in-Some.code.now c.in_ok-read_number-in-Some.field-0
     (stripped c.args.text.now c.in-Some.code.now s.0 s.1.1 s.2)
     n.0
     n.1
-    (λ l. failed (is_ok c.try-from.result) c.in-err-ok.ensures.variant (d.1 l)))
+    (λ l. failed (is_ok c.try_from.result) c.in_err-ok-in-Some.ensures.variant (d.1 l)))

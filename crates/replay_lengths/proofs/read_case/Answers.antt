@@ -4,30 +4,30 @@ use Rattle.std.proofs.lemmas.Option.{MatchOption-at_none, MatchOption-at_some}
 use Rattle.replay_lengths.proofs.Lines.{reads_none, parts, whole}
 use Rattle.replay_lengths.proofs.read_case.Goals as goal
 
-pub returns-in-err-file-length : goal.returns-in-err-file-length
-returns-in-err-file-length c =
-    reads_none _ _ c.args.line.now c.from-residual.ensures
-    (λ x f e. MatchOption-at_none _ _ c.in-err-file-length.was (parts c.args.line.now c.split-once.result c.split-once.ensures.cases x f e))
+pub returns-in_err-file_length : goal.returns-in_err-file_length
+returns-in_err-file_length c =
+    reads_none _ _ c.args.line.now c.from_residual.ensures
+    (λ x f e. MatchOption-at_none _ _ c.in_err-file_length.was (parts c.args.line.now c.split_once.result c.split_once.ensures.cases x f e))
 
-pub returns-in-err-read-number : goal.returns-in-err-read-number
-returns-in-err-read-number c =
-    reads_none _ _ c.args.line.now c.from-residual-in-err-read-number.ensures
+pub returns-in_err-read_number : goal.returns-in_err-read_number
+returns-in_err-read_number c =
+    reads_none _ _ c.args.line.now c.from_residual-in_err-read_number.ensures
     (λ x f e.
-    let s = MatchOption-at_some _ _ _ c.in-ok-file-length.was (parts c.args.line.now c.split-once.result c.split-once.ensures.cases x f e) in
-    c.in-err-read-number.ensures x.file_length f.0 s.0)
+    let s = MatchOption-at_some _ _ _ c.in_ok-file_length.was (parts c.args.line.now c.split_once.result c.split_once.ensures.cases x f e) in
+    c.in_err-read_number.ensures x.file_length f.0 s.0)
 
-pub returns-in-err-read-answer : goal.returns-in-err-read-answer
-returns-in-err-read-answer c =
-    reads_none _ _ c.args.line.now c.from-residual-in-err-read-answer.ensures
+pub returns-in_err-read_answer : goal.returns-in_err-read_answer
+returns-in_err-read_answer c =
+    reads_none _ _ c.args.line.now c.from_residual-in_err-read_answer.ensures
     (λ x f e.
-    let s = MatchOption-at_some _ _ _ c.in-ok-file-length.was (parts c.args.line.now c.split-once.result c.split-once.ensures.cases x f e) in
-    c.in-err-read-answer.ensures x.answer f.1 s.1)
+    let s = MatchOption-at_some _ _ _ c.in_ok-file_length.was (parts c.args.line.now c.split_once.result c.split_once.ensures.cases x f e) in
+    c.in_err-read_answer.ensures x.answer f.1 s.1)
 
 pub returns : goal.returns
 returns c =
-    let s = MatchOption-at_some _ _ _ c.in-ok-file-length.was (split_parts 32 c.args.line.now c.split-once.result c.split-once.ensures.cases (omega arith)) in
-    let a = c.in-ok-read-number.ensures in
-    let b = c.in-ok-read-answer.ensures in (
+    let s = MatchOption-at_some _ _ _ c.in_ok-file_length.was (split_parts 32 c.args.line.now c.split_once.result c.split_once.ensures.cases (omega arith)) in
+    let a = c.in_ok-read_number.ensures in
+    let b = c.in_ok-read_answer.ensures in (
       (a.0, b.0),
-      whole c.args.line.now c.in-ok-file-length.file-length.now c.in-ok-file-length.answer.now (record { file_length = c.in-ok-read-number.field-0; answer = c.in-ok-read-answer.field-0 }) s.0 a.1 b.1,
+      whole c.args.line.now c.in_ok-file_length.file_length.now c.in_ok-file_length.answer.now (record { file_length = c.in_ok-read_number.field-0; answer = c.in_ok-read_answer.field-0 }) s.0 a.1 b.1,
     )

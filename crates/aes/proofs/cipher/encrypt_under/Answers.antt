@@ -13,7 +13,7 @@ loop-key-preserved c =
     let s = bytes_of c.loop-key.state in
     let e : rounds (map bytes_of (drop i keys)) s ≡ rounds (map bytes_of (drop (i + 1) keys)) (round (bytes_of (get_or keys i zero_block)) s) =
     at_drop_more (λ (t : List Block). rounds (map bytes_of t) s) keys i zero_block c.loop-key-test.true in
-    ap (rounds (map bytes_of (drop (i + 1) keys))) c.mixed-round-state.ensures ∙ sym e ∙ c.loop-key.invariant
+    ap (rounds (map bytes_of (drop (i + 1) keys))) c.mixed_round-state.ensures ∙ sym e ∙ c.loop-key.invariant
 
 pub returns : goal.returns
 unfolding rounds cipher
@@ -23,5 +23,5 @@ returns c =
     let s = bytes_of c.loop-key.state in
     let e : rounds (map bytes_of (drop i keys)) s ≡ s =
     at_drop_all (λ (t : List Block). rounds (map bytes_of t) s) keys i c.loop-key-test.false in
-    c.final-round.ensures
-    ∙ ap (final_round (bytes_of c.args.last)) (sym e ∙ c.loop-key.invariant ∙ ap (rounds (map bytes_of keys)) c.add-round-key-state.ensures)
+    c.final_round.ensures
+    ∙ ap (final_round (bytes_of c.args.last)) (sym e ∙ c.loop-key.invariant ∙ ap (rounds (map bytes_of keys)) c.add_round_key-state.ensures)

@@ -5,5 +5,5 @@ pub returns : goal.returns
 returns c =
     let s = c.args.state in
     let k = c.args.key in
-    round_by s.a s.b s.c s.d k.a k.b k.c k.d c.mixed-column.result c.mixed-column-2.result c.mixed-column-3.result c.mixed-column-4.result
-    c.mixed-column.ensures c.mixed-column-2.ensures c.mixed-column-3.ensures c.mixed-column-4.ensures
+    round_by s.a s.b s.c s.d k.a k.b k.c k.d c.mixed_column.result c.mixed_column-2.result c.mixed_column-3.result c.mixed_column-4.result
+    c.mixed_column.ensures c.mixed_column-2.ensures c.mixed_column-3.ensures c.mixed_column-4.ensures

@@ -6,16 +6,16 @@ use Rattle.aes.proofs.Expansion.{expand_turn, expand_none}
 use Rattle.aes.proofs.key_expansion.expand_key.Goals as goal
 
 pub loop-i-init : goal.loop-i-init
-loop-i-init c = (omega arith, c.key-words-words.ensures ∙ expand_none c.args.nk (key_words c.args.key.now c.args.nk))
+loop-i-init c = (omega arith, c.key_words-words.ensures ∙ expand_none c.args.nk (key_words c.args.key.now c.args.nk))
 
-pub next-word-requires : goal.next-word-requires
-next-word-requires c =
+pub next_word-requires : goal.next_word-requires
+next_word-requires c =
     let d : c.loop-i.i / c.args.nk < 11 = div_below c.loop-i.i c.args.nk 11 (omega arith) (omega arith) in
     (omega arith, (omega arith, omega arith))
 
 pub loop-i-preserved : goal.loop-i-preserved
 loop-i-preserved c = (
-  length-set c.loop-i.words c.loop-i.i c.next-word.result ∙ c.loop-i.invariant.0,
-  expand_turn c.loop-i.words (key_words c.args.key.now c.args.nk) c.args.nk c.loop-i.i c.next-word.result
-      (omega arith) (omega arith) (omega arith) c.loop-i.invariant.1 c.next-word.ensures,
+  length-set c.loop-i.words c.loop-i.i c.next_word.result ∙ c.loop-i.invariant.0,
+  expand_turn c.loop-i.words (key_words c.args.key.now c.args.nk) c.args.nk c.loop-i.i c.next_word.result
+      (omega arith) (omega arith) (omega arith) c.loop-i.invariant.1 c.next_word.ensures,
 )

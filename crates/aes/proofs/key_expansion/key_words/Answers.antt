@@ -10,6 +10,6 @@ loop-i-init c = (refl, refl)
 
 pub loop-i-preserved : goal.loop-i-preserved
 loop-i-preserved c = (
-  length-set c.loop-i.words c.loop-i.i c.key-word.result ∙ c.loop-i.invariant.0,
-  words_turn c.args.key.now c.loop-i.words c.loop-i.i c.key-word.result (omega arith) c.key-word.ensures c.loop-i.invariant.1,
+  length-set c.loop-i.words c.loop-i.i c.key_word.result ∙ c.loop-i.invariant.0,
+  words_turn c.args.key.now c.loop-i.words c.loop-i.i c.key_word.result (omega arith) c.key_word.ensures c.loop-i.invariant.1,
 )

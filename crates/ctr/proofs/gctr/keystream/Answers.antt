@@ -5,4 +5,4 @@ use Rattle.ctr.proofs.gctr.keystream.Goals as goal
 
 pub returns : goal.returns
 unfolding stream iv_bytes
-returns c = c.to-bytes.ensures ∙ c.encrypt.ensures
+returns c = c.to_bytes.ensures ∙ c.encrypt.ensures

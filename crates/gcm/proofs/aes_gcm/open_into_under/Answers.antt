@@ -16,10 +16,10 @@ returns c =
     let p = gctr (stream (scheduled s) (iv_bytes c.args.iv)) 2 t in
     let l : length p ≡ n = length_keystream (scheduled s) (length-scheduled s) (iv_bytes c.args.iv) t in (
       omega arith,
-      ap (λ x. gcm (scheduled s) (iv_bytes c.args.iv) c.args.aad.now (take n x)) c.gctr-into.ensures
+      ap (λ x. gcm (scheduled s) (iv_bytes c.args.iv) c.args.aad.now (take n x)) c.gctr_into.ensures
           ∙ ap (gcm (scheduled s) (iv_bytes c.args.iv) c.args.aad.now) (take_at p (drop n c.args.out.now) n l)
           ∙ gcm_opens (scheduled s) (length-scheduled s) (iv_bytes c.args.iv) c.args.aad.now t c.args.tag.now (sym c.tag-real.ensures ∙ c.if-not-same.ensures),
-      ap (drop n) c.gctr-into.ensures ∙ drop_at p (drop n c.args.out.now) n l,
+      ap (drop n) c.gctr_into.ensures ∙ drop_at p (drop n c.args.out.now) n l,
     )
 
 pub returns-then-not-same : goal.returns-then-not-same

@@ -8,6 +8,6 @@ use Rattle.gcm.proofs.gmac.mac.Goals as goal
 
 pub returns : goal.returns
 returns c =
-    c.tag-joined.ensures
-    ∙ under (λ f n. tag f n (c.args.aad.now ++ c.args.text.now) []) (scheduled c.new-schedule.result) (aes c.args.key.now) (iv_bytes c.from-bytes.result) c.args.nonce.now
-    c.new-schedule.ensures.encrypts c.from-bytes.ensures
+    c.tag_joined.ensures
+    ∙ under (λ f n. tag f n (c.args.aad.now ++ c.args.text.now) []) (scheduled c.new-schedule.result) (aes c.args.key.now) (iv_bytes c.from_bytes.result) c.args.nonce.now
+    c.new-schedule.ensures.encrypts c.from_bytes.ensures

@@ -7,7 +7,7 @@ pub returns : goal.returns
 unfolding bytes_big masked
 returns c =
     let e : c.args.hash / 1 ≡ c.args.hash = omega arith in
-    let b : c.to-be-bytes-tag.result ≡ bytes_big 16 c.args.hash = cc in
-    c.xor-block.ensures
+    let b : c.to_be_bytes-tag.result ≡ bytes_big 16 c.args.hash = cc in
+    c.xor_block.ensures
     ∙ ap (λ (t : List ℕ). xor_bytes t c.keystream.result) b
     ∙ ap (xor_bytes (bytes_big 16 c.args.hash)) c.keystream.ensures

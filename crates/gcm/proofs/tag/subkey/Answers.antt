@@ -5,4 +5,4 @@ use Rattle.gcm.proofs.tag.subkey.Goals as goal
 
 pub returns : goal.returns
 unfolding subkey
-returns c = c.load-block.ensures ∙ ap block_of (c.to-bytes.ensures ∙ c.encrypt.ensures)
+returns c = c.load_block.ensures ∙ ap block_of (c.to_bytes.ensures ∙ c.encrypt.ensures)

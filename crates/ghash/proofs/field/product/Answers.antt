@@ -10,9 +10,9 @@ loop-k-init c = (refl, refl)
 pub loop-i-preserved : goal.loop-i-preserved
 loop-i-preserved c =
     let i : ℕ = c.loop-k.k * 64 + c.loop-i.i in (
-      next_Z c.args.x c.args.y i _ c.loop-i.z c.loop-i.v _ c.add-if-z.result (omega arith)
-          c.loop-i.invariant.0 c.loop-i.invariant.1 (word_bit c.args.x c.loop-k.k c.loop-i.i (omega arith) (omega arith)) c.add-if-z.ensures,
-      next_V c.args.y i _ c.loop-i.v c.times-x-v.result (omega arith) c.loop-i.invariant.1 c.times-x-v.ensures,
+      next_Z c.args.x c.args.y i _ c.loop-i.z c.loop-i.v _ c.add_if-z.result (omega arith)
+          c.loop-i.invariant.0 c.loop-i.invariant.1 (word_bit c.args.x c.loop-k.k c.loop-i.i (omega arith) (omega arith)) c.add_if-z.ensures,
+      next_V c.args.y i _ c.loop-i.v c.times_x-v.result (omega arith) c.loop-i.invariant.1 c.times_x-v.ensures,
     )
 
 pub loop-k-preserved : goal.loop-k-preserved

@@ -17,10 +17,10 @@ pub returns-then-at-s : goal.returns-then-at-s
 unfolding ghash
 returns-then-at-s c =
     let i : c.loop-i.i ≡ length c.args.s.now / 16 = omega arith in
-    let e : c.load-padded.result ≡ block_of (drop (c.loop-i.i * 16) c.args.s.now) =
-    c.load-padded.ensures
+    let e : c.load_padded.result ≡ block_of (drop (c.loop-i.i * 16) c.args.s.now) =
+    c.load_padded.ensures
     ∙ ap block_of (append-nil _ ∙ take_rest c.args.s.now (length c.args.s.now / 16 * 16) ∙ ap (λ (n : ℕ). drop (n * 16) c.args.s.now) (sym i)) in
-    next_Y c.args.h c.args.y c.args.s.now c.loop-i.i _ c.loop-i.sum c.load-padded.result c.product-sum-then-at-s.result (omega arith)
+    next_Y c.args.h c.args.y c.args.s.now c.loop-i.i _ c.loop-i.sum c.load_padded.result c.product-sum-then-at-s.result (omega arith)
     c.loop-i.invariant e c.product-sum-then-at-s.ensures.value
 
 pub returns-else-at-s : goal.returns-else-at-s

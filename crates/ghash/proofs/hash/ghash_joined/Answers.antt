@@ -19,8 +19,8 @@ returns c =
     let t : List ℕ = c.args.t.now in
     let at : ℕ = length a / 16 * 16 in
     let n : ℕ = c.min-n.result in
-    let b : c.load-padded.result ≡ block_of (drop at a ++ take n t) =
-    c.load-padded.ensures
+    let b : c.load_padded.result ≡ block_of (drop at a ++ take n t) =
+    c.load_padded.ensures
     ∙ ap (λ (s : List ℕ). block_of (s ++ take (n - 0) t)) (take_rest a at) ∙ ap (λ (k : ℕ). block_of (drop at a ++ take k t)) (sub-zero n) in
     joined_is c.args.h c.args.y c.ghash-front.result c.product-middle.result c.ghash-2.result a t at n refl (omega arith) c.min-n.ensures
     (c.ghash-front.ensures ∙ ap (λ (k : ℕ). ghash c.args.h c.args.y (take k a)) (sub-zero at))

@@ -5,4 +5,4 @@ use Rattle.ghash.proofs.hash.load.Goals as goal
 
 pub returns : goal.returns
 unfolding bytes_of block_of
-returns c = c.from-be-bytes.ensures ∙ simp (get_or-drop, add-zero) (omega arith)
+returns c = c.from_be_bytes.ensures ∙ simp (get_or-drop, add-zero) (omega arith)

@@ -5,5 +5,5 @@ use Rattle.ghash.proofs.hash.load_padded.Goals as goal
 
 pub returns : goal.returns
 returns c =
-    c.load-block.ensures ∙ ap block_of c.put-both.ensures
+    c.load_block.ensures ∙ ap block_of c.put_both.ensures
     ∙ block_padded (c.args.a.now ++ c.args.t.now) (length c.args.a.now + length c.args.t.now)

@@ -13,10 +13,10 @@ front b x y n j k lx hj hk =
 
 pub returns : goal.returns
 returns c =
-    let x : List ℕ = c.copy-from-slice.new.self in
-    let y : List ℕ = c.copy-from-slice-2.new.self in
-    let a : x ≡ c.args.prefix.now = c.copy-from-slice.ensures.after in
-    let b : y ≡ le4 c.args.block = c.copy-from-slice-2.ensures.after ∙ c.to-le-bytes.ensures in
+    let x : List ℕ = c.copy_from_slice.new.self in
+    let y : List ℕ = c.copy_from_slice-2.new.self in
+    let a : x ≡ c.args.prefix.now = c.copy_from_slice.ensures.after in
+    let b : y ≡ le4 c.args.block = c.copy_from_slice-2.ensures.after ∙ c.to_le_bytes.ensures in
     let lx : length x ≡ length c.args.prefix.now = ap length a in
     let ly : length y ≡ 4 = ap length b in (
       omega arith,

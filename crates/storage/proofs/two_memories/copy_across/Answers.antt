@@ -18,9 +18,9 @@ returns c =
     let F = c.args.front.now in
     let S = c.args.back.now in
     let l = length-append F S in
-    let a = c.in-ok-copy-range.ensures in
-    let b = c.in-ok-copy-range-2.ensures in (
+    let a = c.in_ok-copy_range.ensures in
+    let b = c.in_ok-copy_range-2.ensures in (
       omega arith,
-      across F S c.args.into.now c.copy-range.new.into c.copy-range-2.new.into c.args.at c.min-start.result c.min-head.result (c.args.at - c.min-start.result)
+      across F S c.args.into.now c.copy_range.new.into c.copy_range-2.new.into c.args.at c.min-start.result c.min-head.result (c.args.at - c.min-start.result)
           _ _ (omega arith) (omega arith) refl b.0 (search (rules, places)) (search (rules, places)) a.1 b.1,
     )

@@ -18,7 +18,7 @@ nothing = Write (record { ref_ptr = (0, 0); now = [] })
 pub loop-next-init : goal.loop-next-init
 loop-next-init g c =
     let w = c.args.writer.now in
-    let rs = c.in-ok-replies.replies in
+    let rs = c.in_ok-replies.replies in
     let z : vec_len rs ≡ 0 = search rules in
     let l : length (vec_items rs) ≡ 0 = search rules in
     let block = block_by (g.A.Aead.sealed c.args.cipher.now (key_of c.args.key.now)) w in
@@ -42,7 +42,7 @@ loop-next-preserved g c =
     let x : FileCall = get_or xs k nothing in
     let rs = vec_items c.loop-next.replies in
     let m = take_more xs k nothing c.loop-next-test.true in
-    let n = c.push-reserved.ensures.items in
+    let n = c.push_reserved.ensures.items in
     let lk : length (take k xs) ≡ k = simp length-take (omega arith) in
     let lr : length rs ≡ vec_len c.loop-next.replies = search rules in
     let le : length (take k xs) ≡ length rs = omega (arith, i.0) in
@@ -51,13 +51,13 @@ loop-next-preserved g c =
     let l = g.N.NonceSource.left c.call.new.nonces in
     let q = g.K.FileWrite.port c.call.new.sink in
     let was = is_closed (state_of w) in (
-      c.push-reserved.ensures.len ∙ ap (λ y. y + 1) i.0,
-      c.push-reserved.ensures.capacity ∙ i.1,
+      c.push_reserved.ensures.len ∙ ap (λ y. y + 1) i.0,
+      c.push_reserved.ensures.capacity ∙ i.1,
       kept_on w v c.call.new.writer i.2 c.call.ensures.kept,
       c.call.ensures.shut ∙ ap (closes x c.call.result) i.3 ∙ sym (closed_push was (take k xs) rs x c.call.result le)
           ∙ ap (λ y. closed_from was y (rs ++ c.call.result ∷ [])) (sym m) ∙ ap (closed_from was (take (k + 1) xs)) (sym n),
       λ t ns h.
-          subst (λ y. Course (size_of w) (block_by seal w) t ns left y (vec_items c.push-reserved.new.self) (state_of c.call.new.writer) l q) (sym m)
+          subst (λ y. Course (size_of w) (block_by seal w) t ns left y (vec_items c.push_reserved.new.self) (state_of c.call.new.writer) l q) (sym m)
           (subst (λ y. Course (size_of w) (block_by seal w) t ns left (take k xs ++ x ∷ []) y (state_of c.call.new.writer) l q) (sym n)
           (course_push (size_of w) (size_of v) seal (vec_items w.prefix) (vec_items v.prefix) t ns left (take k xs) rs _ _ _ x c.call.result _ _ _
           (ap (λ y. y.bytes) i.2.0) (ap vec_items i.2.1) le (i.4 t ns h) c.call.ensures.does)),

@@ -9,11 +9,11 @@ pub returns : goal.returns
 returns g c =
     let n = c.args.n in
     let b0 : List ℕ = c.args.block.now in
-    let m : List ℕ = c.copy-from-slice.new.self in
+    let m : List ℕ = c.copy_from_slice.new.self in
     let t : List ℕ = c.seal-tag.new.text in
-    let h : List ℕ = c.copy-from-slice-2.new.self in
-    let a : m ≡ c.args.nonce.bytes = c.copy-from-slice.ensures.after ∙ c.as-bytes.ensures in
-    let b : h ≡ c.seal-tag.result = c.copy-from-slice-2.ensures.after in
+    let h : List ℕ = c.copy_from_slice-2.new.self in
+    let a : m ≡ c.args.nonce.bytes = c.copy_from_slice.ensures.after ∙ c.as_bytes.ensures in
+    let b : h ≡ c.seal-tag.result = c.copy_from_slice-2.ensures.after in
     let lm : length m ≡ 12 = search rules in
     let lt : length t ≡ n = search rules in
     let lh : length h ≡ 16 = search rules in

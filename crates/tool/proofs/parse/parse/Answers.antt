@@ -8,14 +8,14 @@ returns-in-empty c = no_words string_bytes c.args.words.now (search rules)
 pub returns-in-help : goal.returns-in-help
 returns-in-help c =
     rw (first string_bytes c.args.words.now c.command-item.result (search rules) c.command-item.is)
-    (asked_help _ _ _ (sym c.as-str.ensures.value ∙ c.in-help.is) c.help.ensures)
+    (asked_help _ _ _ (sym c.as_str.ensures.value ∙ c.in-help.is) c.help.ensures)
 
 pub returns-in-length : goal.returns-in-length
 returns-in-length c =
     rw (first string_bytes c.args.words.now c.command-item.result (search rules) c.command-item.is)
-    (asked_length _ _ _ (sym c.as-str.ensures.value ∙ c.in-length.is) c.length.ensures)
+    (asked_length _ _ _ (sym c.as_str.ensures.value ∙ c.in-length.is) c.length.ensures)
 
-pub returns-in-default : goal.returns-in-default
-returns-in-default c =
+pub returns-in_default : goal.returns-in_default
+returns-in_default c =
     rw (first string_bytes c.args.words.now c.command-item.result (search rules) c.command-item.is)
-    (asked_other _ _ (λ e. c.in-default.not-help (c.as-str.ensures.value ∙ e)) (λ e. c.in-default.not-length (c.as-str.ensures.value ∙ e)))
+    (asked_other _ _ (λ e. c.in_default.not-help (c.as_str.ensures.value ∙ e)) (λ e. c.in_default.not-length (c.as_str.ensures.value ∙ e)))

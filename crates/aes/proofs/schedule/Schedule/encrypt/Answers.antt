@@ -12,4 +12,4 @@ returns c =
     let s = c.args.self.now in
     let n : s.nk + 6 - 1 ≡ s.nk + 5 = omega arith in
     let e = each_part bytes_of s.keys zero_block 1 (s.nk + 6 - 1) (omega arith) ∙ ap (each (key_bytes s) 1) n in
-    c.encrypt-under.ensures ∙ ap (λ (t : List (List ℕ)). cipher (key_bytes s 0) t (key_bytes s (s.nk + 6)) (bytes_of c.args.x)) e
+    c.encrypt_under.ensures ∙ ap (λ (t : List (List ℕ)). cipher (key_bytes s 0) t (key_bytes s (s.nk + 6)) (bytes_of c.args.x)) e

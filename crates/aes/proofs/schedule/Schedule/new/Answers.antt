@@ -26,10 +26,10 @@ encrypts s key x n h =
 pub returns : goal.returns
 returns c =
     let key = c.args.key.now in
-    let nk = c.key-length-nk.result in
-    let w = c.expand-key.result in
-    let n = c.key-length-nk.ensures.value in
-    let e = front key w nk n c.expand-key.ensures in
-    let expands : (i : ℕ) → i < nk + 7 → bytes_of (get_or c.round-keys-keys.result i zero_block) ≡ round_key (expansion key) i =
-    λ i h. c.round-keys-keys.ensures i (omega arith) ∙ sym (key_of_front w (4 * (nk + 7)) i (omega arith)) ∙ ap (λ (t : List ℕ). round_key t i) e in
+    let nk = c.key_length-nk.result in
+    let w = c.expand_key.result in
+    let n = c.key_length-nk.ensures.value in
+    let e = front key w nk n c.expand_key.ensures in
+    let expands : (i : ℕ) → i < nk + 7 → bytes_of (get_or c.round_keys-keys.result i zero_block) ≡ round_key (expansion key) i =
+    λ i h. c.round_keys-keys.ensures i (omega arith) ∙ sym (key_of_front w (4 * (nk + 7)) i (omega arith)) ∙ ap (λ (t : List ℕ). round_key t i) e in
     record { words = n; expands = expands; encrypts = λ x. encrypts _ key x n expands }

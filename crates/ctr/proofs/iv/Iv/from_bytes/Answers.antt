@@ -10,6 +10,6 @@ unfolding iv_bytes
 returns c =
     let b : List ℕ = c.args.bytes.now in
     let l : length b ≡ 12 = omega arith in
-    before b 0 c.word-at.result _ c.word-at.ensures
-    (before b 4 c.word-at-2.result _ c.word-at-2.ensures
-    (sym (append-nil (word_bytes c.word-at-3.result)) ∙ before b 8 c.word-at-3.result [] c.word-at-3.ensures (sym (drop_all 12 b (omega arith)))))
+    before b 0 c.word_at.result _ c.word_at.ensures
+    (before b 4 c.word_at-2.result _ c.word_at-2.ensures
+    (sym (append-nil (word_bytes c.word_at-3.result)) ∙ before b 8 c.word_at-3.result [] c.word_at-3.ensures (sym (drop_all 12 b (omega arith)))))

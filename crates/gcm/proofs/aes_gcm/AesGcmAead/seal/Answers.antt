@@ -9,7 +9,7 @@ use Rattle.gcm.proofs.aes_gcm.AesGcmAead.seal.Goals as goal
 
 pub returns : goal.returns
 returns c =
-    c.seal-under.ensures
-    ∙ under (λ f n. gcm f n c.args.aad.now c.args.text.now) (scheduled c.new-schedule.result) (aes (key_of c.args.key.now)) (iv_bytes c.from-bytes-iv.result) c.args.nonce.bytes
+    c.seal_under.ensures
+    ∙ under (λ f n. gcm f n c.args.aad.now c.args.text.now) (scheduled c.new-schedule.result) (aes (key_of c.args.key.now)) (iv_bytes c.from_bytes-iv.result) c.args.nonce.bytes
     (λ x. c.new-schedule.ensures.encrypts x ∙ ap (λ (k : List ℕ). aes k x) c.bytes.ensures)
-    (c.from-bytes-iv.ensures ∙ c.into-bytes.ensures)
+    (c.from_bytes-iv.ensures ∙ c.into_bytes.ensures)

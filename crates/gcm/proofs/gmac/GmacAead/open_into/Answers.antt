@@ -12,12 +12,12 @@ returns c =
     let a = c.args.aad.now in
     let t = c.args.text.now in
     let n = length t in
-    let x = c.copy-from-slice.new.self in
+    let x = c.copy_from_slice.new.self in
     let rest = post_of 0 (n - 0) c.args.out.now in
     let z : n - 0 ≡ n = omega arith in
-    let ex : x ≡ t = c.copy-from-slice.ensures.after in
+    let ex : x ≡ t = c.copy_from_slice.ensures.after in
     let lx : length x ≡ n = ap length ex in
-    let g = subst (λ (y : List ℕ). gmac (aes y) c.args.nonce.now a t ≡ record { text = t; tag = c.args.tag.now }) c.bytes.ensures c.in-default.ensures in
+    let g = subst (λ (y : List ℕ). gmac (aes y) c.args.nonce.now a t ≡ record { text = t; tag = c.args.tag.now }) c.bytes.ensures c.in_default.ensures in
     (omega arith, ap (gmac (aes k) c.args.nonce.now a) (take_at x rest n lx ∙ ex) ∙ g, drop_at x rest n lx ∙ ap (λ (m : ℕ). drop m c.args.out.now) z)
 
 pub returns-in-Err : goal.returns-in-Err

@@ -10,5 +10,5 @@ returns c =
     let a = c.args.aad.now in
     let t = c.args.text.now in
     sym (gmac_is (aes (key_of c.args.key.now)) c.args.nonce.bytes a t c.mac.result
-    (sym (c.mac.ensures ∙ ap (λ (k : List ℕ). tag (aes k) c.into-bytes-bytes.result (a ++ t) []) c.bytes.ensures
-    ∙ ap (λ (n : List ℕ). tag (aes (key_of c.args.key.now)) n (a ++ t) []) c.into-bytes-bytes.ensures)))
+    (sym (c.mac.ensures ∙ ap (λ (k : List ℕ). tag (aes k) c.into_bytes-bytes.result (a ++ t) []) c.bytes.ensures
+    ∙ ap (λ (n : List ℕ). tag (aes (key_of c.args.key.now)) n (a ++ t) []) c.into_bytes-bytes.ensures)))

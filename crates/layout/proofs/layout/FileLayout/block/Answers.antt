@@ -12,13 +12,13 @@ starts c =
     let e : c.args.number * c.ciphertext.result ≡ c.args.number * (c.args.self.now.size.bytes + 28) = ap (λ x. c.args.number * x) c.ciphertext.ensures in
     omega arith
 
-pub overflow-mul-start : goal.overflow-mul-start
-overflow-mul-start c = let s = starts c in omega arith
+pub overflow_mul-start : goal.overflow_mul-start
+overflow_mul-start c = let s = starts c in omega arith
 
-pub overflow-add-start : goal.overflow-add-start
-overflow-add-start c = let s = starts c in omega arith
+pub overflow_add-start : goal.overflow_add-start
+overflow_add-start c = let s = starts c in omega arith
 
 pub returns : goal.returns
 returns c =
-    let v : Some (record { start = 8 + c.args.number * c.ciphertext.result; plaintext = c.plaintext-in.result }) ≡ spanned c.args.self.now.size.bytes c.args.self.now.shape c.args.number = search rules in
+    let v : Some (record { start = 8 + c.args.number * c.ciphertext.result; plaintext = c.plaintext_in.result }) ≡ spanned c.args.self.now.size.bytes c.args.self.now.shape c.args.number = search rules in
     record { value = v; law = subst (CoversIf c.args.self.now.size.bytes c.args.self.now.shape c.args.number) (sym v) (covers_if c.args.self.now.size.bytes c.args.number c.args.self.now.shape c.args.self.now.proper) }

@@ -14,6 +14,6 @@ returns c =
           (memory_port first) (memory_port second) (memory_port c.write.new.self) (memory_port c.write-2.new.self)
           c.args.bytes.now _ _ c.min-head.result c.min-head.ensures (λ h. sym second.bytes.ok.0 ∙ c.args.self.now.turn h)
           (ap (λ k. take k c.args.bytes.now) (sub-zero c.min-head.result)) (take_rest c.args.bytes.now c.min-head.result)
-          c.in-ok-write.ensures.written c.in-ok-write-2.ensures.written;
+          c.in_ok-write.ensures.written c.in_ok-write-2.ensures.written;
       lent = refl;
     }

@@ -14,12 +14,12 @@ returns-then-held-n g c =
     let z = c.plaintext-size.ensures in
     let n = c.min-n.result in
     let held = c.in-Open.held in
-    let ws : List ℕ = c.append-text.new.block in
+    let ws : List ℕ = c.append_text.new.block in
     let lw : length ws ≡ s.block.len = search rules in
     let nb : n ≤ length c.args.bytes.now = omega arith in
     let lx : length (take (n - 0) c.args.bytes.now) ≡ n = simp length-take (omega arith) in
-    let e = text_is (vec_items s.block) ws c.deref-mut.result.now (vec_items (with_items s.block ws)) c.args.bytes.now held n (n - 0) c.deref-mut.ensures.value (omega arith) (with_items_is s.block ws lw) nb c.append-text.ensures.text in
-    let f = rest_is (vec_items s.block) ws c.deref-mut.result.now (vec_items (with_items s.block ws)) (s.size.bytes + 28) c.deref-mut.ensures.value (with_items_is s.block ws lw) (c.append-text.ensures.rest (s.size.bytes + 28) (omega arith)) in
+    let e = text_is (vec_items s.block) ws c.deref-mut.result.now (vec_items (with_items s.block ws)) c.args.bytes.now held n (n - 0) c.deref-mut.ensures.value (omega arith) (with_items_is s.block ws lw) nb c.append_text.ensures.text in
+    let f = rest_is (vec_items s.block) ws c.deref-mut.result.now (vec_items (with_items s.block ws)) (s.size.bytes + 28) c.deref-mut.ensures.value (with_items_is s.block ws lw) (c.append_text.ensures.rest (s.size.bytes + 28) (omega arith)) in
     record {
       kept = (refl, refl, f);
       gathered = (
@@ -30,24 +30,24 @@ returns-then-held-n g c =
       );
     }
 
-pub returns-in-err-send : goal.returns-in-err-send
-returns-in-err-send g c =
+pub returns-in_err-send : goal.returns-in_err-send
+returns-in_err-send g c =
     let s = c.args.self.now in
     let z = c.plaintext-size.ensures in
     let n = c.min-n.result in
     let held = c.in-Open.held in
-    let ws : List ℕ = c.append-text.new.block in
+    let ws : List ℕ = c.append_text.new.block in
     let lw : length ws ≡ s.block.len = search rules in
     let nb : n ≤ length c.args.bytes.now = omega arith in
     let lx : length (take (n - 0) c.args.bytes.now) ≡ n = simp length-take (omega arith) in
     let u : held < s.size.bytes = subst (λ ph. held_in ph < s.size.bytes) c.in-Open.is s.under in
     let zn : 0 < n = omega (arith, u) in
-    let e = text_is (vec_items s.block) ws c.deref-mut.result.now (vec_items (with_items s.block ws)) c.args.bytes.now held n (n - 0) c.deref-mut.ensures.value (omega arith) (with_items_is s.block ws lw) nb c.append-text.ensures.text in
-    let f = rest_is (vec_items s.block) ws c.deref-mut.result.now (vec_items (with_items s.block ws)) (s.size.bytes + 28) c.deref-mut.ensures.value (with_items_is s.block ws lw) (c.append-text.ensures.rest (s.size.bytes + 28) (omega arith)) in
+    let e = text_is (vec_items s.block) ws c.deref-mut.result.now (vec_items (with_items s.block ws)) c.args.bytes.now held n (n - 0) c.deref-mut.ensures.value (omega arith) (with_items_is s.block ws lw) nb c.append_text.ensures.text in
+    let f = rest_is (vec_items s.block) ws c.deref-mut.result.now (vec_items (with_items s.block ws)) (s.size.bytes + 28) c.deref-mut.ensures.value (with_items_is s.block ws lw) (c.append_text.ensures.rest (s.size.bytes + 28) (omega arith)) in
     let bl = block_of (g.A.Aead.sealed c.args.cipher.now (key_of c.args.key.now)) (vec_items s.prefix) in
     let x = gather_full s.size.bytes bl s.phase held c.in-Open.blocks n (vec_items s.block) _ c.args.bytes.now (g.N.NonceSource.left c.args.nonces.now) (g.K.FileWrite.port c.args.sink.now) c.in-Open.is (omega (arith, u)) zn (search rules) nb e in
-    let p = err_from_is_err_and c.from-residual.result c.from-residual.ensures.1 in
-    let o = outcome_err _ _ _ _ _ _ c.in-err-send.was c.send.ensures.sent in
+    let p = err_from_is_err_and c.from_residual.result c.from_residual.ensures.1 in
+    let o = outcome_err _ _ _ _ _ _ c.in_err-send.was c.send.ensures.sent in
     let k = c.send.ensures.kept in
     rw (p.1, p.2) (record {
       kept = (k.0, k.1, k.2 ∙ f);
@@ -60,14 +60,14 @@ returns g c =
     let z = c.plaintext-size.ensures in
     let n = c.min-n.result in
     let held = c.in-Open.held in
-    let ws : List ℕ = c.append-text.new.block in
+    let ws : List ℕ = c.append_text.new.block in
     let lw : length ws ≡ s.block.len = search rules in
     let nb : n ≤ length c.args.bytes.now = omega arith in
     let lx : length (take (n - 0) c.args.bytes.now) ≡ n = simp length-take (omega arith) in
     let u : held < s.size.bytes = subst (λ ph. held_in ph < s.size.bytes) c.in-Open.is s.under in
     let zn : 0 < n = omega (arith, u) in
-    let e = text_is (vec_items s.block) ws c.deref-mut.result.now (vec_items (with_items s.block ws)) c.args.bytes.now held n (n - 0) c.deref-mut.ensures.value (omega arith) (with_items_is s.block ws lw) nb c.append-text.ensures.text in
-    let f = rest_is (vec_items s.block) ws c.deref-mut.result.now (vec_items (with_items s.block ws)) (s.size.bytes + 28) c.deref-mut.ensures.value (with_items_is s.block ws lw) (c.append-text.ensures.rest (s.size.bytes + 28) (omega arith)) in
+    let e = text_is (vec_items s.block) ws c.deref-mut.result.now (vec_items (with_items s.block ws)) c.args.bytes.now held n (n - 0) c.deref-mut.ensures.value (omega arith) (with_items_is s.block ws lw) nb c.append_text.ensures.text in
+    let f = rest_is (vec_items s.block) ws c.deref-mut.result.now (vec_items (with_items s.block ws)) (s.size.bytes + 28) c.deref-mut.ensures.value (with_items_is s.block ws lw) (c.append_text.ensures.rest (s.size.bytes + 28) (omega arith)) in
     let x = gather_full s.size.bytes (block_of (g.A.Aead.sealed c.args.cipher.now (key_of c.args.key.now)) (vec_items s.prefix)) s.phase held c.in-Open.blocks n (vec_items s.block) _ c.args.bytes.now (g.N.NonceSource.left c.args.nonces.now) (g.K.FileWrite.port c.args.sink.now) c.in-Open.is (omega (arith, u)) zn (search rules) nb e in
     let k = c.send.ensures.kept in
     record {
@@ -75,7 +75,7 @@ returns g c =
       gathered = (
         zn,
         nb,
-        outcome_open _ _ _ _ _ _ c.in-ok-send.was c.send.ensures.sent,
-        outcome_ok _ _ _ _ _ c.in-ok-send.was c.send.ensures.sent ∙ x,
+        outcome_open _ _ _ _ _ _ c.in_ok-send.was c.send.ensures.sent,
+        outcome_ok _ _ _ _ _ c.in_ok-send.was c.send.ensures.sent ∙ x,
       );
     }

@@ -18,15 +18,15 @@ pub returns-in-Ok : goal.returns-in-Ok
 returns-in-Ok g c =
     let s = c.args.self.now in
     let seal = g.A.Aead.sealed c.args.cipher.now (key_of c.args.key.now) in
-    let h = c.in-ok-n.ensures in
-    let a = aad_front c.deref.result.now _ c.block-aad.new.aad c.args.blocks c.in-ok-n.n (c.in-ok-n.n - 0) h.1 h.2 (omega arith)
+    let h = c.in_ok-n.ensures in
+    let a = aad_front c.deref.result.now _ c.block_aad.new.aad c.args.blocks c.in_ok-n.n (c.in_ok-n.n - 0) h.1 h.2 (omega arith)
     ∙ ap (λ w. block_aad w c.args.blocks) c.deref.ensures.value in
     let d = c.deref-mut.ensures.value in
-    let ws : List ℕ = c.send-block.new.block in
+    let ws : List ℕ = c.send_block.new.block in
     let l : length ws ≡ s.block.len = search rules in
     record {
-      kept = (refl, refl, ap (drop (s.size.bytes + 28)) (with_items_is s.block ws l) ∙ c.send-block.ensures.rest (s.size.bytes + 28) (omega (arith, c.requires)) ∙ ap (drop (s.size.bytes + 28)) d);
-      sent = sent_run (block_of seal (vec_items s.prefix)) (take c.args.held (drop 12 (vec_items s.block))) c.args.blocks _ _ _ _ _ (ltb-true c.args.blocks 4294967295 (sym c.has-number.ensures ∙ c.if-not-has-number.false))
+      kept = (refl, refl, ap (drop (s.size.bytes + 28)) (with_items_is s.block ws l) ∙ c.send_block.ensures.rest (s.size.bytes + 28) (omega (arith, c.requires)) ∙ ap (drop (s.size.bytes + 28)) d);
+      sent = sent_run (block_of seal (vec_items s.prefix)) (take c.args.held (drop 12 (vec_items s.block))) c.args.blocks _ _ _ _ _ (ltb-true c.args.blocks 4294967295 (sym c.has_number.ensures ∙ c.if-not-has_number.false))
           (same_block seal (vec_items s.prefix) _ (vec_items s.block) _ c.args.blocks c.args.held a d) c.in-Ok.ensures.sent;
     }
 
@@ -34,14 +34,14 @@ pub returns-in-Err : goal.returns-in-Err
 returns-in-Err g c =
     let s = c.args.self.now in
     let seal = g.A.Aead.sealed c.args.cipher.now (key_of c.args.key.now) in
-    let h = c.in-ok-n.ensures in
-    let a = aad_front c.deref.result.now _ c.block-aad.new.aad c.args.blocks c.in-ok-n.n (c.in-ok-n.n - 0) h.1 h.2 (omega arith)
+    let h = c.in_ok-n.ensures in
+    let a = aad_front c.deref.result.now _ c.block_aad.new.aad c.args.blocks c.in_ok-n.n (c.in_ok-n.n - 0) h.1 h.2 (omega arith)
     ∙ ap (λ w. block_aad w c.args.blocks) c.deref.ensures.value in
     let d = c.deref-mut.ensures.value in
-    let ws : List ℕ = c.send-block.new.block in
+    let ws : List ℕ = c.send_block.new.block in
     let l : length ws ≡ s.block.len = search rules in
     record {
-      kept = (refl, refl, ap (drop (s.size.bytes + 28)) (with_items_is s.block ws l) ∙ c.send-block.ensures.rest (s.size.bytes + 28) (omega (arith, c.requires)) ∙ ap (drop (s.size.bytes + 28)) d);
-      sent = refused_run (block_of seal (vec_items s.prefix)) (take c.args.held (drop 12 (vec_items s.block))) c.args.blocks _ _ _ _ _ (ltb-true c.args.blocks 4294967295 (sym c.has-number.ensures ∙ c.if-not-has-number.false))
+      kept = (refl, refl, ap (drop (s.size.bytes + 28)) (with_items_is s.block ws l) ∙ c.send_block.ensures.rest (s.size.bytes + 28) (omega (arith, c.requires)) ∙ ap (drop (s.size.bytes + 28)) d);
+      sent = refused_run (block_of seal (vec_items s.prefix)) (take c.args.held (drop 12 (vec_items s.block))) c.args.blocks _ _ _ _ _ (ltb-true c.args.blocks 4294967295 (sym c.has_number.ensures ∙ c.if-not-has_number.false))
           (same_block seal (vec_items s.prefix) _ (vec_items s.block) _ c.args.blocks c.args.held a d) c.in-Err.e c.in-Err.ensures.sent;
     }
