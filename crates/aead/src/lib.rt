@@ -1,4 +1,5 @@
 //! What everything that encrypts is generic over: nonces and their sources, keys in use, and ciphers.
+#![tactic(auto)]
 
 pub mod aead;
 pub mod counter;

@@ -1,4 +1,6 @@
 // The command-line tool: see `ags1 help`.
+#![tactic(auto)]
+
 use aead::counter::CounterNonces;
 use aead::key::{KeySize, SecureKey};
 use anyhow::anyhow;

@@ -1,5 +1,7 @@
 //! Times counter mode, GHASH and AES-GCM on sixteen texts of 1,048,576 bytes. With no arguments it prints what was computed, which is
 //! always the same; with the argument `time` the microseconds that each took, which `tools/bench/run` sets beside other programs'.
+#![tactic(auto)]
+
 use aead::aead::Aead;
 use aead::counter::CounterNonces;
 use aead::key::{KeySize, SecureKey};

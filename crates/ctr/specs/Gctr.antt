@@ -1,5 +1,5 @@
 -- SP 800-38D: the incrementing function and GCTR, over the keystream block of each counter.
-use Rattle.std.specs.Prelude.{ℕ, zero, suc, ◌+◌, ◌/◌, ◌%◌, ◌^◌, List, [], ◌∷◌, ◌++◌, length, take, drop}
+use Rattle.std.specs.Prelude.{ℕ, zero, suc, ◌+◌, ◌/◌, ◌%◌, ◌^◌, List, ◌++◌, length, take, drop}
 use Rattle.aes.specs.Cipher.{xor_bytes}
 use Rattle.aes.specs.Words.{word_bytes}
 

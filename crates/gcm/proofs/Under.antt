@@ -1,7 +1,5 @@
 -- Under a block cipher that is known block by block, and an IV that is known by its bytes.
 use Rattle.std.proofs.Common.{◌≡◌, ℕ, List, ap, ◌∙◌}
-use Rattle.aead.specs.Seals.{Sealed}
-use Rattle.gcm.specs.Gcm.{tag, gcm}
 
 module _ {X : Type 0} (of : (List ℕ → List ℕ) → List ℕ → X) where
   pub under : (f g : List ℕ → List ℕ) (n m : List ℕ) → ((x : List ℕ) → f x ≡ g x) → n ≡ m → of f n ≡ of g m

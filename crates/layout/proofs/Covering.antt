@@ -1,10 +1,9 @@
 -- The blocks of a file cover it.
-use Rattle.std.proofs.Common.{◌≡◌, ℕ, suc, ◌+◌, ◌-◌, ◌*◌, ◌<◌, ◌≤◌, min, Bool, true, false, cond, ltb, ◌⊎◌, Some, None, Option, sym, refl, ap, ◌∙◌, subst, inl, inr, ⊎_elim, mul-le-mul_right, suc-mul, zero-mul, add-one, arith}
+use Rattle.std.proofs.Common.{◌≡◌, ℕ, suc, ◌+◌, ◌*◌, ◌<◌, ◌≤◌, true, ltb, Some, None, refl, ap, ◌∙◌, mul-le-mul_right, suc-mul, zero-mul, add-one, arith}
 use Rattle.std.proofs.lemmas.Bool.{ltb-true, ltb-false, cond_both}
 use Rattle.layout.specs.declared.shape.Shape.{Shape}
 use Rattle.layout.specs.declared.shape.Shape.TheVariants.{Full, Partial}
-use Rattle.layout.specs.declared.spans.BlockSpan.{BlockSpan}
-use Rattle.layout.specs.Format.{Proper, file_bytes, plain_bytes, block_count_of, block_start}
+use Rattle.layout.specs.Format.{Proper, file_bytes, block_count_of, block_start}
 use Rattle.layout.specs.Lengths.{proper}
 use Rattle.layout.specs.Spans.{plain_in, spanned, Covers, CoversIf}
 

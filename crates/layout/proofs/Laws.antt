@@ -1,10 +1,9 @@
 -- The computed lengths obey the law of lengths.
-use Rattle.std.proofs.Common.{◌≡◌, ℕ, ◌+◌, ◌-◌, ◌*◌, ◌/◌, ◌%◌, ◌<◌, ◌≤◌, Bool, true, false, cond, ◌&&◌, eqb, ltb, ◌⊎◌, Ok, Err, Result, sym, refl, ap, ◌∙◌, subst, inl, inr, ⊎_elim, mod-lt, div-add-mod', zero-mul, mul-div_cancel, arith}
+use Rattle.std.proofs.Common.{◌≡◌, ℕ, ◌+◌, ◌-◌, ◌*◌, ◌/◌, ◌%◌, ◌<◌, ◌≤◌, true, false, ◌&&◌, eqb, ltb, Ok, Err, sym, refl, ap, ◌∙◌, ⊎_elim, mod-lt, div-add-mod', mul-div_cancel, arith}
 use native.Mathlib.Nat.{mul-mod_left}
 use lib.Arith.{digits_div, digits_mod}
 use Rattle.std.proofs.lemmas.Bool.{lt-ltb, le-ltb, eqb-true, eqb-false, eq-eqb, ne_eqb, ltb-true, ltb-false, and_from, and_parts, and_cases, and_left, and_right, cond-true, cond-false, cond_both, cases_lt, cases_eq, cases_Bool}
-use Rattle.error.specs.declared.stream.StreamError.{StreamError}
-use Rattle.error.specs.declared.stream.StreamError.TheVariants.{BlockSize, FileTooShort, CiphertextTooShort, TooManyBlocks}
+use Rattle.error.specs.declared.stream.StreamError.TheVariants.{CiphertextTooShort}
 use Rattle.layout.specs.declared.shape.Shape.{Shape}
 use Rattle.layout.specs.declared.shape.Shape.TheVariants.{Full, Partial}
 use Rattle.layout.specs.Format.{InLimits, Proper, Closed, file_bytes, plain_bytes, block_count_of}

@@ -1,5 +1,5 @@
 -- What the making of a block size and of a layout answers.
-use Rattle.std.specs.Prelude.{◌≡◌, ℕ, ◌+◌, Bool, true, false, cond, eqb, ltb, Some, None, Ok, Err, Option, Result}
+use Rattle.std.specs.Prelude.{◌≡◌, ℕ, Ok, Err, Result}
 use Rattle.error.specs.declared.stream.StreamError.{StreamError}
 use Rattle.error.specs.declared.stream.StreamError.TheVariants as stream
 use Rattle.layout.specs.declared.size.BlockSize.{BlockSize}

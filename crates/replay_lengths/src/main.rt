@@ -1,5 +1,6 @@
 //! Replays a list of file lengths and of what Apache Iceberg's Rust answers for each: the proved function has to answer
 //! the same. The list comes on standard input; `tools/compare-lengths` makes it.
+#![tactic(auto)]
 
 ghost use Rattle.std.specs.Prelude.{◌≡◌, ◌^◌, ◌<◌, IfOk, Some, decimal, Decides};
 ghost use Rattle.replay_lengths.specs.declared.ListError.TheVariants.{OutOfMemory};

@@ -1,4 +1,5 @@
 //! Where the bytes of a file go and come from: sinks, sources, memories, limits and windows.
+#![tactic(auto)]
 
 pub mod limit;
 pub mod memory;

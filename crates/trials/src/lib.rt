@@ -1,4 +1,5 @@
 //! The trial table: small cases with the answers that they must have, proved to hold in one computed statement.
+#![tactic(auto)]
 
 ghost use Rattle.std.specs.Prelude.{◌≡◌, true, length};
 ghost use Rattle.trials.specs.Trials.{trials, all_hold};

@@ -43,5 +43,9 @@ pub(crate) fn array<const N: usize>(bytes: &[u8]) -> anyhow::Result<[u8; N]> {
 pub(crate) fn expect(holds: bool, otherwise: &str) -> anyhow::Result<()>
     ensures { is_ok result ≡ holds }
 {
-    if holds { Ok(()) } else { Err(anyhow!("{otherwise}")) }
+    if holds {
+        Ok(())
+    } else {
+        Err(anyhow!("{otherwise}"))
+    }
 }

@@ -5,6 +5,8 @@
 //!     expansion KEY WORDS
 //!     gcm KEY NONCE AAD PLAINTEXT CIPHERTEXT TAG
 //!     gmac KEY NONCE AAD TEXT TEXT TAG
+#![tactic(auto)]
+
 mod block;
 mod cases;
 mod hex;

@@ -1,4 +1,5 @@
 //! Worked examples of FIPS 197 and of the GCM specification, computed from the definitions that the ciphers are proved equal to.
+#![tactic(auto)]
 
 ghost use Rattle.std.specs.Prelude.{◌≡◌};
 ghost use Rattle.worked.specs.Worked.{Worked};

@@ -1,4 +1,4 @@
-use Rattle.std.proofs.Common.{◌≡◌, ℕ, ◌-◌, ◌*◌, List, ◌++◌, take, drop}
+use Rattle.std.proofs.Common.{◌≡◌, ◌-◌, ◌*◌, ◌++◌, take, drop}
 use Rattle.aes.specs.Schedules.{scheduled}
 use Rattle.ctr.specs.Gctr.{stream, blocks}
 use Rattle.ctr.specs.Ivs.{iv_bytes}

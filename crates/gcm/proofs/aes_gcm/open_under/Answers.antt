@@ -1,4 +1,4 @@
-use Rattle.std.proofs.Common.{◌≡◌, ℕ, List, sym, refl, ap, ◌∙◌}
+use Rattle.std.proofs.Common.{sym, refl, ap, ◌∙◌}
 use Rattle.aes.specs.Schedules.{scheduled}
 use Rattle.aes.proofs.Lengths.{length-scheduled}
 use Rattle.ctr.specs.Ivs.{iv_bytes}

@@ -1,4 +1,4 @@
-use Rattle.std.proofs.Common.{◌≡◌, sym, refl, ◌∙◌}
+use Rattle.std.proofs.Common.{sym, refl, ◌∙◌}
 use Rattle.aes.specs.Aes.{aes}
 use Rattle.gcm.specs.Macs.{gmac_is, gmac_refuses}
 use Rattle.gcm.proofs.gmac.check.Goals as goal

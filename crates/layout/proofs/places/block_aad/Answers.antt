@@ -1,4 +1,4 @@
-use Rattle.std.proofs.Common.{◌≡◌, ℕ, ◌+◌, ◌-◌, ◌≤◌, List, ◌++◌, length, take, drop, sym, refl, ap, ◌∙◌, append_assoc, arith, drop-drop, take_at, drop_at, rules}
+use Rattle.std.proofs.Common.{◌≡◌, ℕ, ◌+◌, List, ◌++◌, length, drop, sym, refl, ap, ◌∙◌, append_assoc, arith, drop-drop, take_at, drop_at}
 use borrow.Rule.Slice.PartMut.{put_mid, post_of}
 use Rattle.layout.specs.Format.{le4}
 use Rattle.layout.proofs.places.block_aad.Goals as goal

@@ -1,4 +1,4 @@
-use Rattle.std.proofs.Common.{◌≡◌, ◌+◌, ◌-◌, ◌<◌, length, refl, arith, rules}
+use Rattle.std.proofs.Common.{◌+◌, ◌-◌, ◌<◌, length, refl, arith, rules}
 use Rattle.std.proofs.lemmas.List.{length-append, places}
 use Rattle.storage.proofs.Seams.{across}
 use Rattle.storage.proofs.two_memories.copy_across.Goals as goal

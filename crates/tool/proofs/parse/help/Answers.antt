@@ -1,4 +1,4 @@
-use Rattle.std.proofs.Common.{string_bytes, arith, rules}
+use Rattle.std.proofs.Common.{string_bytes, rules}
 use Rattle.tool.proofs.Lists.{help_alone, help_more}
 use Rattle.tool.proofs.parse.help.Goals as goal
 

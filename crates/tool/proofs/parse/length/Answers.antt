@@ -1,4 +1,4 @@
-use Rattle.std.proofs.Common.{◌≡◌, Some, None, string_bytes, subst, rules}
+use Rattle.std.proofs.Common.{Some, None, string_bytes, subst, rules}
 use Rattle.tool.specs.Words.{NumberRead}
 use Rattle.tool.proofs.Lists.{pair, length_less, length_more, asked_both, asked_no_size, asked_no_length}
 use Rattle.tool.proofs.parse.length.Goals as goal

@@ -1,4 +1,4 @@
-use Rattle.std.proofs.Common.{◌≡◌, string_bytes, sym, ◌∙◌, rules}
+use Rattle.std.proofs.Common.{string_bytes, sym, ◌∙◌, rules}
 use Rattle.tool.proofs.Lists.{first, no_words, asked_help, asked_length, asked_other}
 use Rattle.tool.proofs.parse.parse.Goals as goal
 

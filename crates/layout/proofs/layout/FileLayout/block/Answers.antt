@@ -1,4 +1,4 @@
-use Rattle.std.proofs.Common.{◌≡◌, ℕ, ◌+◌, ◌*◌, ◌^◌, ◌<◌, Some, sym, ap, subst, arith, rules}
+use Rattle.std.proofs.Common.{◌≡◌, ◌+◌, ◌*◌, ◌^◌, ◌<◌, Some, sym, ap, subst, arith, rules}
 use Rattle.layout.specs.Format.{block_count_of}
 use Rattle.layout.specs.Spans.{spanned, CoversIf}
 use Rattle.layout.proofs.Covering.{start_within, covers_if}

@@ -1,4 +1,4 @@
-use Rattle.std.proofs.Common.{◌≡◌, ℕ, ◌+◌, ◌*◌, ◌/◌, ◌%◌, ◌<◌, sym, subst, mod-lt, div-add-mod', rules}
+use Rattle.std.proofs.Common.{◌≡◌, ℕ, ◌/◌, ◌%◌, ◌<◌, sym, subst, mod-lt, div-add-mod', rules}
 use Rattle.layout.specs.Spans.{located, Locates}
 use Rattle.layout.proofs.size.BlockSize.locate.Goals as goal
 
