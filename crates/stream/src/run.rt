@@ -30,7 +30,7 @@ fn run_from<K: FileWrite, A: Aead, N: NonceSource>(
     ensures kept { Kept writer.old writer.new }
     ensures answers { MatchResult result (λ rs. vec_len rs ≡ length calls.now) (λ _. writer.new ≡ writer.old) }
     ensures shut { IfOk result (λ rs. is_closed (state_of writer.new) ≡ closed_from (is_closed (state_of writer.old)) calls.now rs.items) }
-    ensures course { MatchResult result (λ rs. (t : List ℕ) (ns : List (List ℕ)) → Holds (size_of writer.old) (block_by (sealed cipher.now (key_of key.now)) writer.old) t ns (state_of writer.old) (port sink.old) → Course (size_of writer.old) (block_by (sealed cipher.now (key_of key.now)) writer.old) t ns (left nonces.old) calls.now rs.items (state_of writer.new) (left nonces.new) (port sink.new)) (λ _. (port sink.new ≡ port sink.old) × (left nonces.new ≡ left nonces.old)) }
+    ensures course { MatchResult result (λ rs. (t : List ℕ) (ns : List (List ℕ)) → Holds (size_of writer.old) (block_by (A.sealed cipher.now (key_of key.now)) writer.old) t ns (state_of writer.old) (K.port sink.old) → Course (size_of writer.old) (block_by (A.sealed cipher.now (key_of key.now)) writer.old) t ns (N.left nonces.old) calls.now rs.items (state_of writer.new) (N.left nonces.new) (K.port sink.new)) (λ _. (K.port sink.new ≡ K.port sink.old) × (N.left nonces.new ≡ N.left nonces.old)) }
 {
     let mut replies = Vec::with_capacity(heap, calls.len())?;
     for next in calls {
@@ -53,9 +53,9 @@ pub fn run<K: FileWrite, A: Aead, N: NonceSource>(
     nonces: &mut N,
 ) -> Result<Vec<Result<(), StreamError>>, AllocError>
     ensures kept { Kept writer.old writer.new }
-    ensures answers { MatchResult result (λ rs. vec_len rs ≡ length calls.now) (λ _. (writer.new ≡ writer.old) × (port sink.new ≡ port sink.old) × (left nonces.new ≡ left nonces.old)) }
+    ensures answers { MatchResult result (λ rs. vec_len rs ≡ length calls.now) (λ _. (writer.new ≡ writer.old) × (K.port sink.new ≡ K.port sink.old) × (N.left nonces.new ≡ N.left nonces.old)) }
     ensures shut { IfOk result (λ rs. is_closed (state_of writer.new) ≡ closed_from (is_closed (state_of writer.old)) calls.now rs.items) }
-    ensures law { IfOk result (λ rs. state_of writer.old ≡ fresh → (port sink.old).taken ≡ [] → FileLaw (sealed cipher.now (key_of key.now)) writer.old.prefix.items (size_of writer.old) (left nonces.old) calls.now rs.items (left nonces.new) (port sink.new)) }
+    ensures law { IfOk result (λ rs. state_of writer.old ≡ fresh → (K.port sink.old).taken ≡ [] → FileLaw (A.sealed cipher.now (key_of key.now)) writer.old.prefix.items (size_of writer.old) (N.left nonces.old) calls.now rs.items (N.left nonces.new) (K.port sink.new)) }
 {
     let replies = run_from(heap, writer, calls, key, sink, cipher, nonces)?;
     Ok(replies)

@@ -23,7 +23,7 @@ pub fn call<K: FileWrite, A: Aead, N: NonceSource>(
 ) -> Result<(), StreamError>
     ensures kept { Kept writer.old writer.new }
     ensures shut { is_closed (state_of writer.new) ≡ closes call.entry result (is_closed (state_of writer.old)) }
-    ensures does { (t : List ℕ) (ns : List (List ℕ)) → Holds (size_of writer.old) (block_by (sealed cipher.now (key_of key.now)) writer.old) t ns (state_of writer.old) (port sink.old) → Does (size_of writer.old) (block_by (sealed cipher.now (key_of key.now)) writer.old) t ns (left nonces.old) (bytes_of call.entry) result (state_of writer.new) (left nonces.new) (port sink.new) }
+    ensures does { (t : List ℕ) (ns : List (List ℕ)) → Holds (size_of writer.old) (block_by (A.sealed cipher.now (key_of key.now)) writer.old) t ns (state_of writer.old) (K.port sink.old) → Does (size_of writer.old) (block_by (A.sealed cipher.now (key_of key.now)) writer.old) t ns (N.left nonces.old) (bytes_of call.entry) result (state_of writer.new) (N.left nonces.new) (K.port sink.new) }
 {
     writer.call(call, key, sink, cipher, nonces)
 }

@@ -20,7 +20,7 @@ pub(crate) fn fetch_block<R: FileRead, A: Aead>(
     cipher: &A,
 ) -> Result<(), StreamError>
     requires { n + 28 ≤ length block.old }
-    ensures { Fetched (sealed cipher.now (key_of key.now)) aad.now (bytes source.now) at (n + 28) i result (take n (drop 12 block.new)) }
+    ensures { Fetched (A.sealed cipher.now (key_of key.now)) aad.now (R.bytes source.now) at (n + 28) i result (take n (drop 12 block.new)) }
 {
     at_block(source.read(at, &mut block[0..n + 28]), i)?;
     let mut nonce = [0u8; 12];

@@ -34,7 +34,7 @@ impl AesGcmFileRead {
         requires end_bound { end ≤ plain_of self.now }
         requires pos_in_bounds { end - pos ≤ length out.old }
         requires self_in_bounds { size_of self.now + 28 ≤ length block.old }
-        ensures { Filled (OpensOf (sealed cipher.now (key_of key.now)) self.now (bytes source.now)) (FailsOf (sealed cipher.now (key_of key.now)) self.now (bytes source.now)) (size_of self.now) pos end result out.new }
+        ensures { Filled (OpensOf (A.sealed cipher.now (key_of key.now)) self.now (R.bytes source.now)) (FailsOf (A.sealed cipher.now (key_of key.now)) self.now (R.bytes source.now)) (size_of self.now) pos end result out.new }
     {
         let place = self.layout.block_size().locate(pos);
         let Some(span) = self.layout.block(place.block) else {
@@ -66,7 +66,7 @@ impl AesGcmFileRead {
         requires end_bound { end ≤ plain_of self.now }
         requires start_in_bounds { end - start ≤ length out.old }
         requires self_in_bounds { size_of self.now + 28 ≤ length block.old }
-        ensures { Got (OpensOf (sealed cipher.now (key_of key.now)) self.now (bytes source.now)) (FailsOf (sealed cipher.now (key_of key.now)) self.now (bytes source.now)) (size_of self.now) start end result out.new }
+        ensures { Got (OpensOf (A.sealed cipher.now (key_of key.now)) self.now (R.bytes source.now)) (FailsOf (A.sealed cipher.now (key_of key.now)) self.now (R.bytes source.now)) (size_of self.now) start end result out.new }
     {
         let mut pos = start;
         while pos < end {
@@ -93,7 +93,7 @@ impl AesGcmFileRead {
         requires end_bound { end ≤ plain_of self.now }
         requires out_len { length out.old ≡ end - start }
         requires block_len { length block.old ≡ size_of self.now + 28 }
-        ensures got { GotAll (OpensOf (sealed cipher.now (key_of key.now)) self.now (bytes source.now)) (FailsOf (sealed cipher.now (key_of key.now)) self.now (bytes source.now)) (size_of self.now) start end result out.new }
+        ensures got { GotAll (OpensOf (A.sealed cipher.now (key_of key.now)) self.now (R.bytes source.now)) (FailsOf (A.sealed cipher.now (key_of key.now)) self.now (R.bytes source.now)) (size_of self.now) start end result out.new }
         ensures wiped { block.new ≡ replicate (size_of self.now + 28) 0 }
     {
         let filled = self.fill(start, end, out, block, key, source, cipher);
@@ -122,7 +122,7 @@ impl AesGcmFileRead {
         source: &R,
         cipher: &A,
     ) -> Result<(), StreamError>
-        ensures { Reads (sealed cipher.now (key_of key.now)) self.now.prefix.items (size_of self.now) (plain_of self.now) (bytes source.now) start end out.old block.old result out.new block.new }
+        ensures { Reads (A.sealed cipher.now (key_of key.now)) self.now.prefix.items (size_of self.now) (plain_of self.now) (R.bytes source.now) start end out.old block.old result out.new block.new }
     {
         if start == end {
             return Ok(());

@@ -25,7 +25,7 @@ impl AesGcmFileRead {
         key: &SecureKey,
         cipher: &A,
     ) -> Result<usize, StreamError>
-        ensures { BlockOpened (A.Aead.sealed cipher.now (key_of key.now)) self.now.prefix.items (size_of self.now) (plain_of self.now) (block_count_of self.now.layout.shape) number sealed.now out.old result out.new }
+        ensures { BlockOpened (A.sealed cipher.now (key_of key.now)) self.now.prefix.items (size_of self.now) (plain_of self.now) (block_count_of self.now.layout.shape) number sealed.now out.old result out.new }
     {
         let Some(span) = self.layout.block(number) else {
             return Err(StreamError::RangePastEnd);

@@ -20,7 +20,7 @@ fn frame_block<A: Aead>(
     cipher: &A,
 )
     requires { n + 28 ≤ length block.old }
-    ensures front { take (n + 28) block.new ≡ framed nonce.bytes (sealed cipher.now (key_of key.now) nonce.bytes aad.now (take n (drop 12 block.old))) }
+    ensures front { take (n + 28) block.new ≡ framed nonce.bytes (A.sealed cipher.now (key_of key.now) nonce.bytes aad.now (take n (drop 12 block.old))) }
     ensures rest { SameFrom (n + 28) block.old block.new }
 {
     block[0..12].copy_from_slice(nonce.as_bytes());
@@ -40,7 +40,7 @@ pub(crate) fn send_block<K: FileWrite, A: Aead, N: NonceSource>(
     nonces: &mut N,
 ) -> Result<(), StreamError>
     requires { n + 28 ≤ length block.old }
-    ensures sent { Sent (left nonces.old) (port sink.old) (λ m. framed m (sealed cipher.now (key_of key.now) m aad.now (take n (drop 12 block.old)))) i result (left nonces.new) (port sink.new) }
+    ensures sent { Sent (N.left nonces.old) (K.port sink.old) (λ m. framed m (A.sealed cipher.now (key_of key.now) m aad.now (take n (drop 12 block.old)))) i result (N.left nonces.new) (K.port sink.new) }
     ensures rest { SameFrom (n + 28) block.old block.new }
 {
     let nonce = at_block(nonces.draw(), i)?;

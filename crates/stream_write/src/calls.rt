@@ -26,7 +26,7 @@ impl AesGcmFileWrite {
     ) -> Result<(), StreamError>
         requires { held ≤ size_of self.old }
         ensures kept { Kept self.old self.new }
-        ensures ended { Ended (last_run (block_by (sealed cipher.now (key_of key.now)) self.old) (ok (take held (drop 12 self.old.block.items)) blocks (left nonces.old) (port sink.old))) result (state_of self.new) (left nonces.new) (port sink.new) }
+        ensures ended { Ended (last_run (block_by (A.sealed cipher.now (key_of key.now)) self.old) (ok (take held (drop 12 self.old.block.items)) blocks (N.left nonces.old) (K.port sink.old))) result (state_of self.new) (N.left nonces.new) (K.port sink.new) }
     {
         if is_complete(held, blocks) {
             sink.close();
@@ -53,7 +53,7 @@ impl AesGcmFileWrite {
         nonces: &mut N,
     ) -> Result<(), StreamError>
         ensures kept { Kept self.old self.new }
-        ensures called { Called (size_of self.old) (block_by (sealed cipher.now (key_of key.now)) self.old) call.entry (state_of self.old) (left nonces.old) (port sink.old) result (state_of self.new) (left nonces.new) (port sink.new) }
+        ensures called { Called (size_of self.old) (block_by (A.sealed cipher.now (key_of key.now)) self.old) call.entry (state_of self.old) (N.left nonces.old) (K.port sink.old) result (state_of self.new) (N.left nonces.new) (K.port sink.new) }
     {
         match (self.phase, call) {
             (Phase::Closed, _) => Err(StreamError::WriterClosed),
@@ -85,7 +85,7 @@ impl AesGcmFileWrite {
         nonces: &mut N,
     ) -> Result<(), StreamError>
         ensures kept { Kept self.old self.new }
-        ensures wrote { Wrote (size_of self.old) (block_by (sealed cipher.now (key_of key.now)) self.old) (state_of self.old) (left nonces.old) (port sink.old) bytes.now result (state_of self.new) (left nonces.new) (port sink.new) }
+        ensures wrote { Wrote (size_of self.old) (block_by (A.sealed cipher.now (key_of key.now)) self.old) (state_of self.old) (N.left nonces.old) (K.port sink.old) bytes.now result (state_of self.new) (N.left nonces.new) (K.port sink.new) }
     {
         self.call(FileCall::Write(bytes), key, sink, cipher, nonces)
     }
@@ -99,7 +99,7 @@ impl AesGcmFileWrite {
         nonces: &mut N,
     ) -> Result<(), StreamError>
         ensures kept { Kept self.old self.new }
-        ensures closes { Closes (size_of self.old) (block_by (sealed cipher.now (key_of key.now)) self.old) (state_of self.old) (left nonces.old) (port sink.old) result (state_of self.new) (left nonces.new) (port sink.new) }
+        ensures closes { Closes (size_of self.old) (block_by (A.sealed cipher.now (key_of key.now)) self.old) (state_of self.old) (N.left nonces.old) (K.port sink.old) result (state_of self.new) (N.left nonces.new) (K.port sink.new) }
     {
         self.call(closing(), key, sink, cipher, nonces)
     }

@@ -17,7 +17,7 @@ impl AesGcmFileWrite {
     // Sends the header; a refusal poisons the writer.
     pub(crate) fn begin<K: FileWrite>(&mut self, sink: &mut K) -> Result<(), StreamError>
         ensures kept { Kept self.old self.new }
-        ensures begun { (l : List (List ℕ)) → Outcome (begin_run (size_of self.old) l (port sink.old)) result (state_of self.new) l (port sink.new) }
+        ensures begun { (l : List (List ℕ)) → Outcome (begin_run (size_of self.old) l (K.port sink.old)) result (state_of self.new) l (K.port sink.new) }
     {
         match sink.write(&self.size.header()) {
             Ok(()) => {
@@ -43,7 +43,7 @@ impl AesGcmFileWrite {
         requires phase_value { is_open self.old.phase ≡ true }
         requires bytes_nonzero { 0 < length bytes.now }
         ensures kept { Kept self.old self.new }
-        ensures gathered { Gathered (push_bytes (size_of self.old) (block_by (sealed cipher.now (key_of key.now)) self.old)) (run_of (state_of self.old) (left nonces.old) (port sink.old)) bytes.now result self.new.phase (state_of self.new) (left nonces.new) (port sink.new) }
+        ensures gathered { Gathered (push_bytes (size_of self.old) (block_by (A.sealed cipher.now (key_of key.now)) self.old)) (run_of (state_of self.old) (N.left nonces.old) (K.port sink.old)) bytes.now result self.new.phase (state_of self.new) (N.left nonces.new) (K.port sink.new) }
     {
         let Phase::Open(held, blocks) = self.phase else {
             return Ok(0);
@@ -70,7 +70,7 @@ impl AesGcmFileWrite {
     ) -> Result<(), StreamError>
         requires { is_open self.old.phase ≡ true }
         ensures kept { Kept self.old self.new }
-        ensures gathered { Outcome (push_bytes (size_of self.old) (block_by (sealed cipher.now (key_of key.now)) self.old) (run_of (state_of self.old) (left nonces.old) (port sink.old)) bytes.now) result (state_of self.new) (left nonces.new) (port sink.new) }
+        ensures gathered { Outcome (push_bytes (size_of self.old) (block_by (A.sealed cipher.now (key_of key.now)) self.old) (run_of (state_of self.old) (N.left nonces.old) (K.port sink.old)) bytes.now) result (state_of self.new) (N.left nonces.new) (K.port sink.new) }
     {
         let mut at = 0;
         while at < bytes.len() {

@@ -27,7 +27,7 @@ impl AesGcmFileWrite {
     ) -> Result<(), StreamError>
         requires { held ≤ size_of self.old }
         ensures kept { Kept self.old self.new }
-        ensures sent { Outcome (send_run (block_by (sealed cipher.now (key_of key.now)) self.old) (take held (drop 12 self.old.block.items)) blocks (left nonces.old) (port sink.old)) result (state_of self.new) (left nonces.new) (port sink.new) }
+        ensures sent { Outcome (send_run (block_by (A.sealed cipher.now (key_of key.now)) self.old) (take held (drop 12 self.old.block.items)) blocks (N.left nonces.old) (K.port sink.old)) result (state_of self.new) (N.left nonces.new) (K.port sink.new) }
     {
         if !has_number(blocks) {
             self.phase = Phase::Poisoned;

@@ -21,7 +21,7 @@ returns-in-Ok g c =
     let h = c.in_ok-n.ensures in
     let a = aad_front c.deref.result.now _ c.block_aad.new.aad c.args.blocks c.in_ok-n.n (c.in_ok-n.n - 0) h.1 h.2 (omega arith)
     ∙ ap (λ w. block_aad w c.args.blocks) c.deref.ensures.value in
-    let d = c.deref-mut.ensures.value in
+    let d = c.deref_mut.ensures.value in
     let ws : List ℕ = c.send_block.new.block in
     let l : length ws ≡ s.block.len = search rules in
     record {
@@ -37,7 +37,7 @@ returns-in-Err g c =
     let h = c.in_ok-n.ensures in
     let a = aad_front c.deref.result.now _ c.block_aad.new.aad c.args.blocks c.in_ok-n.n (c.in_ok-n.n - 0) h.1 h.2 (omega arith)
     ∙ ap (λ w. block_aad w c.args.blocks) c.deref.ensures.value in
-    let d = c.deref-mut.ensures.value in
+    let d = c.deref_mut.ensures.value in
     let ws : List ℕ = c.send_block.new.block in
     let l : length ws ≡ s.block.len = search rules in
     record {
