@@ -1,5 +1,5 @@
 -- A file reads back as it was written.
-use Rattle.std.proofs.Common.{◌≡◌, ℕ, suc, ◌+◌, ◌-◌, ◌*◌, ◌/◌, ◌%◌, ◌<◌, ◌≤◌, min, true, false, eqb, ltb, ◌≢◌, ◌⊎◌, List, [], ◌++◌, length, get_or, take, drop, Some, None, Ok, Err, Option, Result, sym, refl, ap, ◌∙◌, subst, inl, inr, ⊎_elim, mul-le-mul_right, mod-lt, suc-mul, div-add-mod', div-mul-le_self, add-one, arith}
+use Rattle.std.proofs.Common.{◌≡◌, ℕ, ◌+◌, ◌-◌, ◌*◌, ◌/◌, ◌%◌, ◌<◌, ◌≤◌, min, true, false, eqb, ltb, ◌≢◌, List, [], ◌++◌, length, get_or, take, drop, Some, None, Ok, Err, Result, sym, refl, ap, ◌∙◌, subst, ⊎_elim, mul-le-mul_right, mod-lt, suc-mul, div-add-mod', div-mul-le_self, add-one, arith}
 use Rattle.std.proofs.lemmas.List.{length-take, length-drop, same_lists, get_or-take, get_or-drop, get_or_default, take_at, take-append-drop}
 use Rattle.std.proofs.lemmas.Bool.{cases_lt, ne_eqb, eq-eqb, lt-ltb, le-ltb, cond-true, cond-false}
 use Rattle.error.specs.declared.stream.StreamError.{StreamError}
@@ -17,7 +17,7 @@ use Rattle.storage.specs.Answers.{range}
 use Rattle.stream_write.specs.Blocks.{block_of}
 use Rattle.stream_law.specs.Files.{chunk, IsFile}
 use Rattle.stream_law.proofs.Rows.{twelve_at}
-use Rattle.stream_read.specs.Blocks.{text_in, block_in, Reaches, Opens, Fails}
+use Rattle.stream_read.specs.Blocks.{text_in, block_in, Opens, Fails}
 use Rattle.stream_read.specs.Ranges.{GotAll, early, ReadBy, Reads}
 use Rattle.stream.specs.Laws.{ReadsBack}
 

@@ -1,5 +1,5 @@
 -- From the course of a file to its law.
-use Rattle.std.proofs.Common.{◌≡◌, ℕ, ◌+◌, ◌<◌, true, false, ◌≢◌, List, [], ◌∷◌, ◌++◌, length, get_or, Result, sym, refl, ap, ◌∙◌, subst, arith}
+use Rattle.std.proofs.Common.{◌≡◌, ℕ, ◌+◌, true, false, List, [], ◌∷◌, ◌++◌, length, Result, sym, ap, ◌∙◌, subst, arith}
 use Rattle.std.proofs.lemmas.List.{length-append, get_or_append_left}
 use Rattle.error.specs.declared.stream.StreamError.{StreamError}
 use Rattle.aead.specs.Draws.{Distinct, Twelve}
@@ -11,7 +11,7 @@ use Rattle.stream_write.specs.Blocks.{block_of}
 use Rattle.stream_write.specs.Writers.{State, fresh, opened, poisoned, closed}
 use Rattle.stream_write.specs.declared.call.FileCall.{FileCall}
 use Rattle.stream_law.specs.Deeds.{is_closed}
-use Rattle.stream_law.specs.Files.{Holds, Row, IsFile}
+use Rattle.stream_law.specs.Files.{Holds, Row}
 use Rattle.stream_law.proofs.Rows.{is_file}
 use Rattle.stream.specs.Courses.{written, closed_from, Fate, took, lost, nonces, taken, Course}
 use Rattle.stream.specs.Laws.{FileLaw}

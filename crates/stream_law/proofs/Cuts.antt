@@ -1,6 +1,6 @@
 -- Blocks cut from a plaintext.
-use Rattle.std.proofs.Common.{◌≡◌, ℕ, zero, suc, ◌+◌, ◌*◌, ◌<◌, ◌≤◌, ◌⊎◌, List, [], ◌∷◌, ◌++◌, length, take, drop, sym, refl, ap, ◌∙◌, inl, inr, suc-mul, zero-mul, arith}
-use Rattle.std.proofs.lemmas.List.{append_assoc, append-nil, length-append, length-drop, take-append-le, drop-append-le, take_all, nil_from_length}
+use Rattle.std.proofs.Common.{◌≡◌, ℕ, suc, ◌+◌, ◌*◌, ◌≤◌, List, [], ◌∷◌, ◌++◌, length, take, drop, sym, ap, ◌∙◌, suc-mul, zero-mul, arith}
+use Rattle.std.proofs.lemmas.List.{append_assoc, append-nil, length-drop, take-append-le, drop-append-le, take_all, nil_from_length}
 use Rattle.stream_law.specs.Files.{blocks_from}
 
 -- one block more

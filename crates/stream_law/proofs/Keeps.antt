@@ -1,9 +1,8 @@
 -- Every write and close keeps what holds.
-use Rattle.std.proofs.Common.{◌≡◌, ℕ, zero, suc, ◌+◌, ◌*◌, ◌<◌, ◌≤◌, Bool, true, false, cond, ◌&&◌, eqb, ltb, ◌⊎◌, List, [], ◌∷◌, ◌++◌, length, take, drop, Ok, Err, Result, sym, refl, ap, ◌∙◌, inl, inr, ⊎_elim, suc-mul, zero-mul, arith}
+use Rattle.std.proofs.Common.{◌≡◌, ℕ, zero, suc, ◌+◌, ◌*◌, ◌<◌, ◌≤◌, false, cond, ◌&&◌, eqb, ltb, ◌⊎◌, List, [], ◌∷◌, ◌++◌, length, Err, Result, sym, refl, ap, ◌∙◌, inl, inr, ⊎_elim, suc-mul, zero-mul, arith}
 use Rattle.std.proofs.lemmas.List.{append_assoc, append-nil, length-append, length_push, nil_from_length}
-use Rattle.std.proofs.lemmas.Bool.{cases_Bool, ltb-true, ltb-false, cond_both, and_parts, and_cases, eqb-true, eqb-false}
-use Rattle.std.proofs.lemmas.Bool.Decides.{nat_tests}
-use Rattle.storage.specs.Ports.{Port, takes, added, shut}
+use Rattle.std.proofs.lemmas.Bool.{ltb-true, ltb-false, cond_both, and_parts, and_cases, eqb-true, eqb-false}
+use Rattle.storage.specs.Ports.{Port, takes, added}
 use Rattle.error.specs.declared.stream.StreamError.{StreamError}
 use Rattle.stream_write.specs.Writers.{State, fresh, opened, poisoned, closed}
 use Rattle.error.specs.declared.stream.StreamError.TheVariants.{Storage, Cipher, TooManyBlocks, WriterClosed, WriterPoisoned, HeaderNotTaken}
@@ -15,7 +14,7 @@ use Rattle.stream_write.specs.Calls.{Called}
 use Rattle.stream_write.specs.declared.call.FileCall.{FileCall}
 use Rattle.stream_write.specs.declared.call.FileCall.TheVariants.{Write, Close}
 use Rattle.stream_law.specs.Deeds.{bytes_of}
-use Rattle.stream_law.specs.Files.{blocks_from, Counts, Row, Stands, Spoilt, Holds, lost_in, lost_by, gain, Does}
+use Rattle.stream_law.specs.Files.{blocks_from, Counts, Row, Stands, Spoilt, Holds, lost_in, Does}
 use Rattle.stream_law.proofs.Cuts.{blocks_more}
 
 -- what a run holds: start is the nonces at its start, ns those used before it, Q what is said of a run that goes on

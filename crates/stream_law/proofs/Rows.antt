@@ -1,9 +1,9 @@
 -- Header and blocks in a row are the file of a plaintext.
-use Rattle.std.proofs.Common.{◌≡◌, ℕ, zero, suc, ◌+◌, ◌-◌, ◌*◌, ◌<◌, ◌≤◌, min, ◌⊎◌, List, [], ◌∷◌, ◌++◌, length, get_or, take, drop, sym, refl, ap, ◌∙◌, subst, inl, inr, ⊎_elim, mul-le-mul_right, suc-mul, zero-mul, mul-add, arith}
+use Rattle.std.proofs.Common.{◌≡◌, ℕ, zero, suc, ◌+◌, ◌-◌, ◌*◌, ◌<◌, ◌≤◌, min, List, [], ◌∷◌, ◌++◌, length, get_or, take, drop, sym, refl, ap, ◌∙◌, ⊎_elim, mul-le-mul_right, suc-mul, zero-mul, mul-add, arith}
 use Rattle.std.proofs.lemmas.List.{length-take, length-drop, length-append, drop-drop, drop_at, take_at, drop_more}
 use Rattle.std.proofs.lemmas.Bool.{cases_lt}
 use Rattle.aead.specs.Draws.{Twelve}
-use Rattle.layout.specs.Format.{InLimits, Proper, Closed, file_bytes, plain_bytes, block_count_of, block_start, header}
+use Rattle.layout.specs.Format.{Proper, Closed, file_bytes, plain_bytes, block_count_of, block_start, header}
 use Rattle.layout.specs.declared.shape.Shape.{Shape}
 use Rattle.layout.specs.declared.shape.Shape.TheVariants.{Full, Partial}
 use Rattle.stream_law.specs.Files.{chunk, blocks_from, Counts, Row, IsFile}

@@ -1,5 +1,5 @@
 -- Which calls close a writer.
-use Rattle.std.proofs.Common.{◌≡◌, ℕ, Bool, true, false, List, Ok, Err, Result, sym, refl, ap, ◌∙◌, subst, arith}
+use Rattle.std.proofs.Common.{◌≡◌, ℕ, true, false, List, Result, sym, ap, ◌∙◌}
 use Rattle.error.specs.declared.stream.StreamError.{StreamError}
 use Rattle.storage.specs.Ports.{Port}
 use Rattle.stream_write.specs.Calls.{Called}

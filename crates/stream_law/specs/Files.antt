@@ -1,5 +1,5 @@
 -- The AGS1 file of a plaintext, and what a writer and its sink hold of it at any moment.
-use Rattle.std.specs.Prelude.{◌≡◌, ℕ, suc, ◌+◌, ◌*◌, ◌<◌, ◌≤◌, Bool, true, false, ◌⊎◌, List, [], ◌∷◌, ◌++◌, length, take, drop, Ok, Err, Result, slice_index_or}
+use Rattle.std.specs.Prelude.{◌≡◌, ℕ, suc, ◌+◌, ◌*◌, ◌<◌, ◌≤◌, false, ◌⊎◌, List, [], ◌∷◌, ◌++◌, length, take, drop, Ok, Err, Result, slice_index_or}
 use Rattle.error.specs.declared.stream.StreamError.{StreamError}
 use Rattle.layout.specs.Format.{Proper, Closed, file_bytes, plain_bytes, block_count_of, block_start, header}
 use Rattle.layout.specs.declared.shape.Shape.{Shape}

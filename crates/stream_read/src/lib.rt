@@ -1,4 +1,5 @@
 //! The reader of encrypted files: it opens ranges of the plaintext, one block at a time, and single blocks.
+#![tactic(auto)]
 
 pub mod block;
 pub mod making;

@@ -1,11 +1,11 @@
 -- One turn of gathering.
-use Rattle.std.proofs.Common.{◌≡◌, ℕ, ◌+◌, ◌-◌, ◌<◌, ◌≤◌, min, Bool, true, false, cond, List, [], ◌∷◌, ◌++◌, length, take, drop, Ok, Err, Result, sym, refl, ap, ◌∙◌, arith, rules}
+use Rattle.std.proofs.Common.{◌≡◌, ℕ, ◌+◌, ◌-◌, ◌<◌, ◌≤◌, true, List, ◌++◌, length, take, drop, Ok, Err, Result, sym, refl, ap, ◌∙◌, arith}
 use Rattle.std.proofs.lemmas.List.{length-take, length-drop, take-append-drop, take_all, drop-drop, drop_all}
 use Rattle.storage.specs.Ports.{Port}
 use Rattle.error.specs.declared.stream.StreamError.{StreamError}
 use Rattle.stream_write.specs.declared.phase.Phase.{Phase}
 use Rattle.stream_write.specs.declared.phase.Phase.TheVariants.{Fresh, Open, Poisoned, Closed}
-use Rattle.stream_write.specs.Writers.{State, fresh, opened, poisoned, closed, state_in, is_open}
+use Rattle.stream_write.specs.Writers.{State, poisoned, state_in, is_open}
 use Rattle.aead.specs.Seals.{Sealed}
 use Rattle.stream_write.specs.Blocks.{block_of}
 use Rattle.stream_write.specs.Runs.{begin_run, Wrote, Run, ok, failed, push_bytes, send_run, run_of, Outcome}

@@ -1,5 +1,5 @@
 -- The end of a file.
-use Rattle.std.proofs.Common.{◌≡◌, ℕ, ◌≤◌, Bool, true, false, cond, ◌&&◌, List, [], Ok, Err, Result, sym, refl, ap, ◌∙◌, subst, arith}
+use Rattle.std.proofs.Common.{◌≡◌, ℕ, Bool, true, false, cond, List, [], Ok, Err, Result, sym, refl, ap, ◌∙◌, subst, arith}
 use Rattle.std.proofs.lemmas.Bool.{cond_both}
 use Rattle.error.specs.declared.storage.StorageError.TheVariants.{BlockNotTaken}
 use Rattle.error.specs.declared.stream.StreamError.TheVariants.{HeaderNotTaken}
@@ -8,7 +8,7 @@ use Rattle.layout.specs.Format.{header}
 use Rattle.storage.specs.Ports.{Port, takes, added, shut}
 use Rattle.stream_write.specs.Blocks.{block_of}
 use Rattle.error.specs.declared.stream.StreamError.{StreamError}
-use Rattle.stream_write.specs.Writers.{State, fresh, opened, poisoned, closed}
+use Rattle.stream_write.specs.Writers.{State, closed}
 use Rattle.stream_write.specs.Runs.{Run, ok, failed, begin_run, last_run, Outcome, Ended}
 
 -- the sink is closed after a send that was answered

@@ -4,8 +4,8 @@ use Rattle.std.proofs.lemmas.Bool.{lt-ltb, cond-true, cond-false}
 use Rattle.error.specs.declared.stream.StreamError.{StreamError}
 use Rattle.error.specs.declared.stream.StreamError.TheVariants as stream
 use Rattle.storage.specs.Ports.{Port, takes}
-use Rattle.stream_write.specs.Runs.{Run, ok, failed, send_run, Outcome}
-use Rattle.stream_write.specs.Sends.{Sent, Refused, Origin, of_cipher, of_storage, own, origin}
+use Rattle.stream_write.specs.Runs.{failed, send_run, Outcome}
+use Rattle.stream_write.specs.Sends.{Sent}
 use Rattle.stream_write.specs.Writers.{opened, poisoned}
 
 module _ (block : ℕ → List ℕ → List ℕ → List ℕ) (t : List ℕ) (i : ℕ) (left : List (List ℕ)) (p : Port) (f : List ℕ → List ℕ) (rest : List (List ℕ)) (q : Port)

@@ -1,5 +1,5 @@
 -- What bytes that are written one after the other come to.
-use Rattle.std.specs.Prelude.{◌≡◌, ℕ, ◌+◌, ◌<◌, ◌≤◌, Bool, true, false, cond, ◌&&◌, List, [], ◌∷◌, ◌++◌, length, take, Ok, Err, Result, ◌==◌, nat_lt}
+use Rattle.std.specs.Prelude.{◌≡◌, ℕ, ◌+◌, ◌<◌, ◌≤◌, true, cond, ◌&&◌, List, [], ◌∷◌, ◌++◌, length, take, Ok, Err, Result, ◌==◌, nat_lt}
 use Rattle.error.specs.declared.storage.StorageError.TheVariants.{BlockNotTaken}
 use Rattle.error.specs.declared.stream.StreamError.{StreamError}
 use Rattle.error.specs.declared.stream.StreamError.TheVariants.{Storage, Cipher, TooManyBlocks, WriterClosed, WriterPoisoned, HeaderNotTaken}

@@ -1,4 +1,5 @@
 //! The writer of encrypted files: it gathers plaintext, seals it block by block and hands the blocks to a sink.
+#![tactic(auto)]
 
 pub mod block;
 pub mod call;

@@ -1,4 +1,4 @@
-use Rattle.std.proofs.Common.{◌≡◌, false, [], vec_items, sym, refl, ap, ◌∙◌, subst}
+use Rattle.std.proofs.Common.{[], vec_items, sym, refl, ap, ◌∙◌, subst}
 use Rattle.aead.specs.Seals.{key_of}
 use Rattle.stream_write.specs.Blocks.{block_of}
 use Rattle.stream_write.specs.Calls.{state_of, size_of}

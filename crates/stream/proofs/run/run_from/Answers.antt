@@ -1,8 +1,6 @@
-use Rattle.std.proofs.Common.{◌≡◌, ℕ, ◌+◌, List, [], ◌∷◌, ◌++◌, length, get_or, take, vec_items, vec_len, Result, sym, refl, ap, ◌∙◌, subst, arith, rules}
+use Rattle.std.proofs.Common.{◌≡◌, ℕ, ◌+◌, List, [], ◌∷◌, ◌++◌, length, get_or, take, vec_items, vec_len, sym, refl, ap, ◌∙◌, subst, arith, rules}
 use Rattle.std.proofs.lemmas.List.{nil_from_length, take_more, take_all, length-take}
-use Rattle.error.specs.declared.stream.StreamError.{StreamError}
 use Rattle.aead.specs.Seals.{key_of}
-use Rattle.stream_write.specs.Blocks.{block_of}
 use Rattle.stream_write.specs.Calls.{state_of, size_of, block_by}
 use Rattle.stream_write.specs.declared.call.FileCall.{FileCall}
 use Rattle.stream_write.specs.declared.call.FileCall.TheVariants.{Write}
