@@ -14,9 +14,8 @@ pub struct Ags1Length {
     pub code: u32,
 }
 
-/// The plaintext bytes and the blocks of a file of so many bytes, for C.
-#[unsafe(no_mangle)]
-pub extern "C" fn ags1_plaintext_length(file_length: u64, block_size: u32) -> Ags1Length
+/// The plaintext bytes and the blocks of a file of so many bytes, as C is told them.
+pub fn ags1_plaintext_length(file_length: u64, block_size: u32) -> Ags1Length
     ensures value { result ≡ length_answer block_size (measured block_size file_length) }
     ensures law { LengthLaw block_size file_length (plain_length block_size (measured block_size file_length)) }
 {
