@@ -1,11 +1,9 @@
-ghost use Rattle.std.specs.Prelude.{◌≡◌, ◌==◌};
+ghost use Rattle.std.specs.Prelude.{◌≡◌};
 ghost use Rattle.code.specs.Codes.{code_number, code_name, layer_name};
-ghost use Rattle.std.specs.Cmp.Rules.{comparing};
-ghost use Rattle.std.proofs.Common.{rules};
-ghost use Rattle.std.specs.Cmp as Keys;
+ghost use Rattle.code.specs.declared.code.Code.{Code};
 
 /// The code of an error. The numbers are part of the interface: programs and people refer to an error by them.
-#[derive(Clone, Copy, Debug)]
+#[derive(Clone, Copy, Debug, PartialEq, Eq)]
 pub enum Code {
     FileTooShort = 1,
     CiphertextTooShort = 2,
@@ -35,9 +33,10 @@ pub enum Code {
 }
 
 impl Code {
-    /// The code's number.
+    /// The code's number, which is no other code's.
     pub fn number(self) -> u8
-        ensures { result ≡ code_number self }
+        ensures value { result ≡ code_number self }
+        ensures alone { (other : Code) → code_number other ≡ result → other ≡ self }
     {
         self as u8
     }
@@ -74,20 +73,6 @@ impl Code {
             Code::OutOfMemory => "OutOfMemory",
         }
     }
-}
-
-impl PartialEq for Code {
-    ghost eq = { λ x y. (code_number x == code_number y) };
-
-    ghost laws = { Keys.partial_equiv_from_equiv (Prim.search (comparing, rules)) };
-
-    fn eq(&self, other: &Code) -> bool {
-        self.number() == other.number()
-    }
-}
-
-impl Eq for Code {
-    ghost laws = { Prim.search (comparing, rules) };
 }
 
 /// The layer that refused.

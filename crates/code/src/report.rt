@@ -19,13 +19,13 @@ impl fmt::Display for Report {
     ghost output = { λ x. Some (report_text x) };
 
     fn fmt<W: fmt::Write>(&self, f: &mut fmt::Formatter<W>) -> fmt::Result {
-        let number = self.code.number();
-        let name = self.code.name();
-        let layer = self.layer.name();
-        let position = self.position;
         write!(
             f,
-            "code {number} {name}, layer {layer}, position {position}"
+            "code {} {}, layer {}, position {}",
+            self.code.number(),
+            self.code.name(),
+            self.layer.name(),
+            self.position
         )
     }
 }

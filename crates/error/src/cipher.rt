@@ -55,8 +55,7 @@ impl fmt::Display for CipherError {
     ghost output = { λ e. Some (report_text (cipher_report e)) };
 
     fn fmt<W: fmt::Write>(&self, f: &mut fmt::Formatter<W>) -> fmt::Result {
-        let report = self.report();
-        write!(f, "{report}")
+        self.report().fmt(f)
     }
 }
 

@@ -40,8 +40,7 @@ impl fmt::Display for StorageError {
     ghost output = { λ e. Some (report_text (storage_report e)) };
 
     fn fmt<W: fmt::Write>(&self, f: &mut fmt::Formatter<W>) -> fmt::Result {
-        let report = self.report();
-        write!(f, "{report}")
+        self.report().fmt(f)
     }
 }
 

@@ -19,13 +19,10 @@ pub struct At<E> {
 }
 
 /// The result of a lower layer's call, its error marked with the block.
-pub fn at_block<T, E>(res: Result<T, E>, block: u32) -> Result<T, At<E>>
-    ensures { result ≡ marked res block }
+pub fn at_block<T, E>(answer: Result<T, E>, block: u32) -> Result<T, At<E>>
+    ensures { result ≡ marked answer block }
 {
-    match res {
-        Ok(value) => Ok(value),
-        Err(error) => Err(At { error, block }),
-    }
+    answer.map_err(|error| At { error, block })
 }
 
 /// Why an encrypted file refuses.
@@ -90,8 +87,7 @@ impl fmt::Display for StreamError {
     ghost output = { λ e. Some (report_text (stream_report e)) };
 
     fn fmt<W: fmt::Write>(&self, f: &mut fmt::Formatter<W>) -> fmt::Result {
-        let report = self.report();
-        write!(f, "{report}")
+        self.report().fmt(f)
     }
 }
 

@@ -59,8 +59,7 @@ impl fmt::Display for KmsError {
     ghost output = { λ e. Some (report_text (kms_report e)) };
 
     fn fmt<W: fmt::Write>(&self, f: &mut fmt::Formatter<W>) -> fmt::Result {
-        let report = self.report();
-        write!(f, "{report}")
+        self.report().fmt(f)
     }
 }
 

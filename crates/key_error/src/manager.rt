@@ -83,8 +83,7 @@ impl fmt::Display for ManagerError {
     ghost output = { λ e. Some (report_text (manager_report e)) };
 
     fn fmt<W: fmt::Write>(&self, f: &mut fmt::Formatter<W>) -> fmt::Result {
-        let report = self.report();
-        write!(f, "{report}")
+        self.report().fmt(f)
     }
 }
 
