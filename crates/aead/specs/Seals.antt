@@ -2,6 +2,7 @@
 use Rattle.std.specs.Prelude.{◌≡◌, ℕ, ◌<◌, ◌≤◌, ◌⊎◌, List, length, take, drop, Ok, Err, Result, ◌≢◌}
 use Rattle.error.specs.declared.cipher.CipherError.{CipherError}
 use Rattle.error.specs.declared.cipher.CipherError.TheVariants.{MemoryTooSmall, NotAuthentic}
+use Rattle.aead.specs.declared.aead.KeyedCipher.{KeyedCipher}
 use Rattle.aead.specs.declared.key.SecureKey.{SecureKey}
 use Rattle.aead.specs.Keys.{key_bytes}
 
@@ -13,6 +14,10 @@ pub record Sealed : Type 0 where
 -- the bytes of a key in use
 abbrev pub key_of : SecureKey → List ℕ
 key_of k = key_bytes k.size k.mem.now
+
+-- what a cipher makes under the key in use, of nonce, AAD and plaintext
+abbrev pub sealing : {A : Type 0} → (A → List ℕ → List ℕ → List ℕ → List ℕ → Sealed) → KeyedCipher A → List ℕ → List ℕ → List ℕ → Sealed
+sealing sealed k = sealed k.cipher.now (key_of k.key.now)
 
 -- no plaintext seals to these bytes
 abbrev pub Unauthentic : (List ℕ → Sealed) → Sealed → CipherError → Type 0
