@@ -1,5 +1,6 @@
 -- Places: of a plaintext byte among the blocks, and of a block in the file.
 use Rattle.std.specs.Prelude.{◌≡◌, ℕ, ◌+◌, ◌-◌, ◌*◌, ◌/◌, ◌%◌, ◌<◌, ◌≤◌, min, cond, List, ◌++◌, length, drop, Some, None, Ok, Err, Option, Result, nat_lt}
+use Rattle.arrayvec.specs.ArrayVec.{ArrayVec}
 use Rattle.code.specs.Codes.{code_number}
 use Rattle.error.specs.Reports.{stream_report}
 use Rattle.error.specs.declared.stream.StreamError.{StreamError}
@@ -45,8 +46,7 @@ abbrev pub CoversIf : ℕ → Shape → ℕ → Option BlockSpan → Type 0
 CoversIf b s i None = block_count_of s ≤ i
 CoversIf b s i (Some x) = Covers b s i x
 
--- the AAD of block i at the front of the buffer, or nothing where the prefix is too long
-abbrev pub AadPut : List ℕ → ℕ → List ℕ → Result ℕ StreamError → List ℕ → Type 0
-AadPut prefix i before (Ok n) after =
-    (length prefix ≤ 64) × (n ≡ length prefix + 4) × (after ≡ block_aad prefix i ++ drop (length prefix + 4) before)
-AadPut prefix i before (Err e) after = (64 < length prefix) × (e ≡ OutsideLimits) × (after ≡ before)
+-- the AAD of block i, or a refusal where the prefix is too long
+abbrev pub AadMade : List ℕ → ℕ → Result (ArrayVec ℕ) StreamError → Type 0
+AadMade prefix i (Ok aad) = (length prefix ≤ 64) × (aad.items ≡ block_aad prefix i)
+AadMade prefix i (Err e) = (64 < length prefix) × (e ≡ OutsideLimits)

@@ -1,14 +1,17 @@
 ghost use Rattle.std.specs.Prelude.{◌≡◌, ℕ};
-ghost use Rattle.layout.specs.Spans.{located, Locates, plain_in, spanned, CoversIf, AadPut};
+ghost use Rattle.layout.specs.Spans.{located, Locates, plain_in, spanned, CoversIf, AadMade};
 
 use crate::layout::FileLayout;
 use crate::shape::Shape;
 use crate::size::{BlockSize, HEADER_LENGTH};
 use crate::spans::{BlockOffset, BlockSpan};
+use arrayvec::ArrayVec;
 use error::stream::StreamError;
 
 /// The most bytes of an AAD prefix.
 pub const MAX_AAD_PREFIX: usize = 64;
+/// The most bytes of a block's AAD: a prefix and four of the block's number.
+pub const MAX_AAD: usize = 68;
 
 impl BlockSize {
     /// The block that holds the plaintext byte at `position`, and the byte's place in it.
@@ -30,14 +33,8 @@ impl FileLayout {
         ensures { result ≡ plain_in self.now.size.bytes self.now.shape number }
     {
         match self.shape {
-            Shape::Full(_) => self.size.plaintext(),
-            Shape::Partial(full, last) => {
-                if number < full {
-                    self.size.plaintext()
-                } else {
-                    last
-                }
-            }
+            Shape::Partial(full, last) if number >= full => last,
+            Shape::Partial(_, _) | Shape::Full(_) => self.size.plaintext(),
         }
     }
 
@@ -57,15 +54,16 @@ impl FileLayout {
     }
 }
 
-/// Writes the AAD of a block to the front of `aad` and gives its length: the file's prefix, then the block's number.
-pub fn block_aad(prefix: &[u8], block: u32, aad: &mut [u8; 68]) -> Result<usize, StreamError>
-    ensures { AadPut prefix.now block aad.old result aad.new }
+/// The AAD of a block: the file's prefix, then the block's number.
+pub fn block_aad(prefix: &[u8], block: u32) -> Result<ArrayVec<u8, MAX_AAD>, StreamError>
+    ensures { AadMade prefix.now block result }
 {
-    let n = prefix.len();
-    if n > MAX_AAD_PREFIX {
+    if prefix.len() > MAX_AAD_PREFIX {
         return Err(StreamError::OutsideLimits);
     }
-    aad[0..n].copy_from_slice(prefix);
-    aad[n..n + 4].copy_from_slice(&block.to_le_bytes());
-    Ok(n + 4)
+    let mut aad = ArrayVec::new();
+    // There is room for both, so neither is refused.
+    let _ = aad.try_extend_from_slice(prefix);
+    let _ = aad.try_extend_from_slice(&block.to_le_bytes());
+    Ok(aad)
 }
