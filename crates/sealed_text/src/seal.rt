@@ -1,9 +1,8 @@
-ghost use Rattle.aead.specs.Seals.{key_of};
+ghost use Rattle.aead.specs.Seals.{sealing};
 ghost use Rattle.sealed_text.specs.Sealing.{TextSealed};
 
 use crate::frame::{MAX_LENGTH, OVERHEAD};
-use aead::aead::Aead;
-use aead::key::SecureKey;
+use aead::aead::{Aead, KeyedCipher};
 use aead::source::NonceSource;
 use error::cipher::CipherError;
 
@@ -11,14 +10,13 @@ use error::cipher::CipherError;
 /// where the text or the AAD is longer than `MAX_LENGTH`, then where `out` is too small, then where no nonce is left; a refusal
 /// draws no nonce and leaves `out` as it was.
 pub fn seal_text<A: Aead, S: NonceSource>(
-    cipher: &A,
-    key: &SecureKey,
+    keyed: &KeyedCipher<'_, A>,
     nonces: &mut S,
     aad: &[u8],
     text: &[u8],
     out: &mut [u8],
 ) -> Result<usize, CipherError>
-    ensures { TextSealed (A.sealed cipher.now (key_of key.now)) aad.now text.now out.old (S.left nonces.old) result out.new (S.left nonces.new) }
+    ensures { TextSealed (sealing A.sealed keyed.now) aad.now text.now out.old (S.left nonces.old) result out.new (S.left nonces.new) }
 {
     let n = text.len();
     if n > MAX_LENGTH || aad.len() > MAX_LENGTH {
@@ -30,7 +28,7 @@ pub fn seal_text<A: Aead, S: NonceSource>(
     let nonce = nonces.draw()?;
     out[0..12].copy_from_slice(nonce.as_bytes());
     out[12..12 + n].copy_from_slice(text);
-    let tag = cipher.seal(key, nonce, aad, &mut out[12..12 + n]);
+    let tag = keyed.seal(nonce, aad, &mut out[12..12 + n]);
     out[12 + n..n + OVERHEAD].copy_from_slice(&tag);
     Ok(n + OVERHEAD)
 }

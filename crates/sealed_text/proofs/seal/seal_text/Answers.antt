@@ -5,7 +5,7 @@ use Rattle.sealed_text.proofs.seal.seal_text.Goals as goal
 
 pub returns : goal.returns
 returns g c =
-    let f = g.A.Aead.sealed c.args.cipher.now (key_of c.args.key.now) in
+    let f = g.A.Aead.sealed c.args.keyed.now.cipher.now (key_of c.args.keyed.now.key.now) in
     let text = c.args.text.now in
     let out = c.args.out.now in
     let nonce = c.in_ok-nonce.nonce.bytes in
