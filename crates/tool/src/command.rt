@@ -1,8 +1,11 @@
-ghost use Rattle.std.specs.Prelude.{◌≡◌};
+ghost use Rattle.std.specs.Prelude.{Some};
 ghost use Rattle.tool.specs.Texts.{usage_message};
 
+use std::error::Error;
+use std::fmt;
+
 /// What a user asks of the tool.
-#[derive(Clone, Copy)]
+#[derive(Clone, Copy, PartialEq, Eq, Debug)]
 pub enum Command {
     /// No words: one task from beginning to end, with an account of it.
     Account,
@@ -12,7 +15,7 @@ pub enum Command {
 }
 
 /// Why the words are not understood.
-#[derive(Clone, Copy)]
+#[derive(Clone, Copy, PartialEq, Eq, Debug)]
 pub enum UsageError {
     UnknownCommand,
     TooFewArguments,
@@ -23,22 +26,25 @@ pub enum UsageError {
     FileLength,
 }
 
-impl UsageError {
-    /// What the user is told.
-    pub fn message(self) -> &'static str
-        ensures { result.now ≡ usage_message self }
-    {
-        match self {
+impl fmt::Display for UsageError {
+    ghost output = { λ x. Some (usage_message x) };
+
+    fn fmt<W: fmt::Write>(&self, f: &mut fmt::Formatter<W>) -> fmt::Result {
+        f.write_str(match self {
             UsageError::UnknownCommand => "no such command; 'ags1 help' says what there is",
             UsageError::TooFewArguments => "too few arguments; 'ags1 help' says what there is",
             UsageError::TooManyArguments => "too many arguments; 'ags1 help' says what there is",
-            UsageError::BlockSize =>
-                "BLOCK_SIZE must be a whole number from 0 to 18446744073709551615",
-            UsageError::FileLength =>
-                "FILE_LENGTH must be a whole number from 0 to 18446744073709551615",
-        }
+            UsageError::BlockSize => {
+                "BLOCK_SIZE must be a whole number from 0 to 18446744073709551615"
+            }
+            UsageError::FileLength => {
+                "FILE_LENGTH must be a whole number from 0 to 18446744073709551615"
+            }
+        })
     }
 }
+
+impl Error for UsageError {}
 
 /// What the tool can do.
 pub const HELP: &str = "ags1: encrypted files in the AGS1 format

@@ -7,10 +7,7 @@ use crate::command::{Command, UsageError};
 fn number(word: &str) -> Option<u64>
     ensures { NumberRead word.now result }
 {
-    match word.parse::<u64>() {
-        Ok(n) => Some(n),
-        Err(_) => None,
-    }
+    word.parse::<u64>().ok()
 }
 
 fn help(arguments: &[String]) -> Result<Command, UsageError>
@@ -29,12 +26,8 @@ fn length(arguments: &[String]) -> Result<Command, UsageError>
     match arguments {
         [] | [_] => Err(UsageError::TooFewArguments),
         [block_size, file_length] => {
-            let Some(block_size) = number(block_size.as_str()) else {
-                return Err(UsageError::BlockSize);
-            };
-            let Some(file_length) = number(file_length.as_str()) else {
-                return Err(UsageError::FileLength);
-            };
+            let block_size = number(block_size.as_str()).ok_or(UsageError::BlockSize)?;
+            let file_length = number(file_length.as_str()).ok_or(UsageError::FileLength)?;
             Ok(Command::Length(block_size.min(4_294_967_295) as u32, file_length))
         }
         _ => Err(UsageError::TooManyArguments),

@@ -26,12 +26,10 @@ impl fmt::Display for FileSummary {
     ghost output = { λ x. Some (summary_text x) };
 
     fn fmt<W: fmt::Write>(&self, f: &mut fmt::Formatter<W>) -> fmt::Result {
-        let file = self.file_length;
-        let blocks = self.blocks;
-        let plaintext = self.plaintext_length;
         write!(
             f,
-            "{file} bytes: a header, {blocks} blocks, {plaintext} bytes of plaintext"
+            "{} bytes: a header, {} blocks, {} bytes of plaintext",
+            self.file_length, self.blocks, self.plaintext_length
         )
     }
 }
@@ -40,25 +38,23 @@ impl fmt::Display for BlockLine {
     ghost output = { λ x. Some (block_text x) };
 
     fn fmt<W: fmt::Write>(&self, f: &mut fmt::Formatter<W>) -> fmt::Result {
-        let number = self.number;
-        let start = self.start;
-        let length = self.length;
-        let plaintext = self.plaintext;
         write!(
             f,
-            "block {number} starts at byte {start}, takes {length} bytes, holds {plaintext}"
+            "block {} starts at byte {}, takes {} bytes, holds {}",
+            self.number, self.start, self.length, self.plaintext
         )
     }
 }
 
-/// The line for the whole file.
-pub fn summary(layout: &FileLayout) -> FileSummary
-    ensures { result ≡ planned layout.now.size.bytes layout.now.shape }
-{
-    FileSummary {
-        file_length: layout.file_length(),
-        blocks: layout.block_count(),
-        plaintext_length: layout.plaintext_length(),
+impl From<&FileLayout> for FileSummary {
+    ghost from_gives = { λ x r. r ≡ planned x.now.size.bytes x.now.shape };
+
+    fn from(layout: &FileLayout) -> FileSummary {
+        FileSummary {
+            file_length: layout.file_length(),
+            blocks: layout.block_count(),
+            plaintext_length: layout.plaintext_length(),
+        }
     }
 }
 
