@@ -3,6 +3,7 @@
 
 pub mod every;
 pub mod file;
+pub mod full;
 pub mod list;
 pub mod plan;
 pub mod print;

@@ -3,34 +3,31 @@ use layout::layout::FileLayout;
 use layout::lengths::plaintext_length;
 use layout::places::block_aad;
 use layout::size::BlockSize;
-use tool::plan::{block_line, summary};
+use layout::spans::BlockOffset;
+use tool::plan::{FileSummary, block_line};
 
 const LIST_LENGTH: u64 = 2_500_000;
 
-const BLOCK_SIZE: u32 = 1_048_576;
+/// The block size of the long list.
+pub(crate) const BLOCK_SIZE: u32 = 1_048_576;
 
 const PREFIX: &[u8; 5] = b"cargo";
 
 fn print_blocks(rt: &HostRuntime, layout: &FileLayout) -> anyhow::Result<()> {
-    for number in 0..layout.block_count() {
-        if let Some(line) = block_line(layout, number) {
-            println!(rt; "  {line}")?;
-        }
+    for line in (0..layout.block_count()).filter_map(|number| block_line(layout, number)) {
+        println!(rt; "  {line}")?;
     }
     Ok(())
 }
 
 // Where one byte of the list is found, and what its block is sealed with.
 fn print_place(rt: &HostRuntime, size: BlockSize, position: u64) -> anyhow::Result<()> {
-    let place = size.locate(position);
-    let block = place.block;
-    let offset = place.offset;
+    let BlockOffset { block, offset } = size.locate(position);
     println!(rt;
         "Byte {position} of the list lies in block {block}, at byte {offset} of its plaintext."
     )?;
-    let mut aad = [0u8; 68];
-    let length = block_aad(PREFIX, u32::try_from(block)?, &mut aad)?;
-    print_bytes(rt, "That block is sealed with the AAD", &aad[0..length])
+    let aad = block_aad(PREFIX, u32::try_from(block)?)?;
+    print_bytes(rt, "That block is sealed with the AAD", &aad)
 }
 
 fn print_cut(rt: &HostRuntime, file_length: u64) -> anyhow::Result<()> {
@@ -47,7 +44,7 @@ pub fn plan(rt: &HostRuntime) -> anyhow::Result<()> {
         "A cargo list of {LIST_LENGTH} bytes, encrypted in blocks of {BLOCK_SIZE} bytes."
     )?;
     let layout = FileLayout::closed(LIST_LENGTH, BLOCK_SIZE)?;
-    let whole = summary(&layout);
+    let whole = FileSummary::from(&layout);
     println!(rt; "The file has {whole}.")?;
     let size = BlockSize::new(BLOCK_SIZE)?;
     print_bytes(rt, "  header", &size.header())?;

@@ -1,4 +1,5 @@
 use crate::print::print_bytes;
+use aead::aead::KeyedCipher;
 use aead::counter::CounterNonces;
 use aead::key::{KeySize, SecureKey};
 use gcm::aes_gcm::AesGcm;
@@ -14,19 +15,23 @@ pub fn entry(rt: &HostRuntime) -> anyhow::Result<()> {
     let mut memory = [9u8; 32];
     let size = KeySize::of(16, memory.len())?;
     let key = SecureKey::new(&mut memory, size);
+    let keyed = KeyedCipher {
+        cipher: &AesGcm,
+        key: &key,
+    };
     let mut nonces = CounterNonces::new([0; 4], 1);
     let mut sealed = [0u8; 48];
-    let length = seal_text(&AesGcm, &key, &mut nonces, AAD, ENTRY, &mut sealed)?;
+    let length = seal_text(&keyed, &mut nonces, AAD, ENTRY, &mut sealed)?;
     println!(rt; "An entry of 20 bytes is sealed to {length}:")?;
     print_bytes(rt, " ", &sealed)?;
     let mut text = [0u8; 20];
-    let opened = open_text(&AesGcm, &key, AAD, &sealed, &mut text)?;
+    let opened = open_text(&keyed, AAD, &sealed, &mut text)?;
     println!(rt;
         "It opens to the {opened} bytes that were sealed: {}.",
         text == *ENTRY
     )?;
     sealed[20] ^= 1;
-    match open_text(&AesGcm, &key, AAD, &sealed, &mut text) {
+    match open_text(&keyed, AAD, &sealed, &mut text) {
         Ok(_) => println!(rt; "With one bit changed it opens.")?,
         Err(refusal) => println!(rt; "With one bit changed it is refused: {refusal}.")?,
     }

@@ -1,5 +1,5 @@
 -- The list of file lengths with an answer for each: its text, and what is to be answered.
-use Rattle.std.specs.Prelude.{◌≡◌, ℕ, ◌^◌, ◌<◌, Bool, true, false, not, List, [], ◌∷◌, ◌++◌, Some, None, Ok, Err, codes, decimal, count_by, Option, Result, ◌==◌, ◌≢◌}
+use Rattle.std.specs.Prelude.{◌≡◌, ℕ, ◌^◌, ◌<◌, Bool, true, false, List, [], ◌∷◌, ◌++◌, Some, None, Ok, Err, codes, decimal, Option, Result, ◌==◌, ◌≢◌}
 use Rattle.std.specs.List.{flat_map}
 use Rattle.code.specs.Codes.{code_number}
 use Rattle.error.specs.Reports.{stream_report}
@@ -8,7 +8,6 @@ use Rattle.layout.specs.Lengths.{measured, plain_length}
 use Rattle.replay_lengths.specs.declared.Answer.{Answer}
 use Rattle.replay_lengths.specs.declared.Answer.TheVariants.{Plaintext, Refused}
 use Rattle.replay_lengths.specs.declared.Case.{Case}
-use Rattle.replay_lengths.specs.declared.Tally.{Tally}
 
 -- the text of an answer, of a line and of the whole list
 abbrev pub answer_text : Answer → List ℕ
@@ -59,10 +58,3 @@ is_plaintext (Refused n) = false
 
 abbrev pub agreed : Case → Bool
 agreed c = same_answer (answer_for c.file_length) c.answer
-
-abbrev pub tallied : List Case → Tally
-tallied cs = record {
-  answered = count_by (λ c. is_plaintext c.answer) cs;
-  refused = count_by (λ c. not (is_plaintext c.answer)) cs;
-  differing = count_by (λ c. not (agreed c)) cs;
-}

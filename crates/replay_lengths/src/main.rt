@@ -2,9 +2,9 @@
 //! the same. The list comes on standard input; `tools/compare-lengths` makes it.
 #![tactic(auto)]
 
-ghost use Rattle.std.specs.Prelude.{◌≡◌, ◌^◌, ◌<◌, IfOk, Some, decimal, Decides};
+ghost use Rattle.std.specs.Prelude.{◌≡◌, ◌^◌, ◌<◌, IfOk, Some, not, count_by, decimal, Decides};
 ghost use Rattle.replay_lengths.specs.declared.ListError.TheVariants.{OutOfMemory};
-ghost use Rattle.replay_lengths.specs.Listed.{Reads, AnswerFits, CaseFits, answer_text, case_text, list_text, answer_for, same_answer, tallied};
+ghost use Rattle.replay_lengths.specs.Listed.{Reads, AnswerFits, CaseFits, answer_text, case_text, list_text, answer_for, same_answer, is_plaintext, agreed};
 
 use anyhow::anyhow;
 use code::report::Reported;
@@ -23,6 +23,14 @@ pub enum Answer {
     Refused(u8),
 }
 
+impl Answer {
+    fn is_plaintext(self) -> bool
+        ensures { result ≡ is_plaintext self }
+    {
+        matches!(self, Answer::Plaintext(_))
+    }
+}
+
 impl fmt::Display for Answer {
     ghost output = { λ a. Some (answer_text a) };
 
@@ -39,14 +47,6 @@ impl fmt::Display for Answer {
 pub struct Case {
     pub file_length: u64,
     pub answer: Answer,
-}
-
-/// How many lines there are of each kind.
-#[derive(Clone, Copy)]
-pub struct Tally {
-    pub answered: usize,
-    pub refused: usize,
-    pub differing: usize,
 }
 
 /// Why a list is not read.
@@ -143,10 +143,8 @@ fn read_list(heap: Global, text: &str) -> Result<Vec<Case>, ListError>
     let mut cases = Vec::new(heap);
     let mut rest = text;
     while let Some((line, after)) = rest.split_once('\n') {
-        let Some(case) = read_case(line) else {
-            return Err(ListError::NoCase { after: cases.len() });
-        };
-        cases.push(case)?;
+        let no_case = ListError::NoCase { after: cases.len() };
+        cases.push(read_case(line).ok_or(no_case)?)?;
         rest = after;
     }
     if !rest.is_empty() {
@@ -155,25 +153,31 @@ fn read_list(heap: Global, text: &str) -> Result<Vec<Case>, ListError>
     Ok(cases)
 }
 
-/// How many cases there are of each kind.
-fn counted(cases: &[Case]) -> Tally
-    ensures { result ≡ tallied cases.now }
+/// How many cases state a plaintext.
+fn answered(cases: &[Case]) -> usize
+    ensures { result ≡ count_by (λ c. is_plaintext c.answer) cases.now }
 {
-    let mut tally = Tally {
-        answered: 0,
-        refused: 0,
-        differing: 0,
-    };
-    for case in cases {
-        match case.answer {
-            Answer::Plaintext(_) => tally.answered += 1,
-            Answer::Refused(_) => tally.refused += 1,
-        }
-        if !agrees(case) {
-            tally.differing += 1;
-        }
-    }
-    tally
+    cases
+        .iter()
+        .filter(|case| case.answer.is_plaintext())
+        .count()
+}
+
+/// How many cases state a refusal.
+fn refused(cases: &[Case]) -> usize
+    ensures { result ≡ count_by (λ c. not (is_plaintext c.answer)) cases.now }
+{
+    cases
+        .iter()
+        .filter(|case| !case.answer.is_plaintext())
+        .count()
+}
+
+/// How many cases state another answer than the proved function's.
+fn differing(cases: &[Case]) -> usize
+    ensures { result ≡ count_by (λ c. not (agreed c)) cases.now }
+{
+    cases.iter().filter(|case| !agrees(case)).count()
 }
 
 /// Reads the list, compares each line, and prints what differs and how many lines there were.
@@ -191,11 +195,9 @@ fn replay(rt: &HostRuntime) -> anyhow::Result<()> {
         }
     }
     let count = cases.len();
-    let Tally {
-        answered,
-        refused,
-        differing,
-    } = counted(cases.as_slice());
+    let answered = answered(&cases);
+    let refused = refused(&cases);
+    let differing = differing(&cases);
     println!(rt;
         "{count} lengths replayed: {answered} answered, {refused} refused, {differing} differ"
     )?;
