@@ -1,9 +1,7 @@
 -- Blocks read from bytes.
-use Rattle.std.proofs.Common.{◌≡◌, ℕ, zero, suc, ◌+◌, ◌-◌, ◌<◌, ◌≤◌, List, ◌++◌, length, get_or, take, drop, replicate, sym, refl, ap, ◌∙◌, ⊎_elim, arith}
-use borrow.Rule.Slice.PartMut.{put_mid, post_of}
-use Rattle.std.proofs.lemmas.List.{get_or-drop, get_or_past, get_or_append_left, get_or-append_right, length-append, take_at, take-append-drop}
-use Rattle.std.proofs.lemmas.Slice.{take-put_mid, drop-put_mid, drop-append-drop}
-use Rattle.std.proofs.lemmas.Bool.{cases_lt}
+use Rattle.std.proofs.Common.{◌≡◌, ℕ, zero, suc, ◌*◌, ◌<◌, ◌≤◌, List, [], ◌++◌, length, get_or, take, drop, replicate, refl, ap, ◌∙◌, append_assoc, arith}
+use Rattle.std.specs.Simd.{first_chunks}
+use Rattle.std.proofs.lemmas.List.{get_or-take, get_or-drop, get_or-replicate, get_or_past, get_or_append_left, get_or-append_right, drop-drop, length-append}
 use Rattle.ghash.specs.Ghash.{bytes_of, block_of}
 
 bytes_same : (n : ℕ) (b s : List ℕ) → ((k : ℕ) → k < n → get_or b k 0 ≡ get_or s k 0) → bytes_of n b ≡ bytes_of n s
@@ -22,38 +20,22 @@ block_same b s h = bytes_same 16 b s h
 pub block_append : (xs ys : List ℕ) → 16 ≤ length xs → block_of (xs ++ ys) ≡ block_of xs
 block_append xs ys h = block_same (xs ++ ys) xs (λ k l. get_or_append_left xs ys 0 k (omega arith))
 
-zeros : (n k : ℕ) → ◌≡◌ {A = ℕ} (get_or (replicate n 0) k 0) 0
-zeros zero k = refl
-zeros (suc n) zero = refl
-zeros (suc n) (suc k) = zeros n k
+-- block i of the m blocks at the front of s
+chunk_is : (m i : ℕ) (s : List ℕ) → i < m → get_or (first_chunks 16 m s) i [] ≡ take 16 (drop (i * 16) s)
+chunk_is zero i s h = absurd (omega arith)
+chunk_is (suc m) zero s h = refl
+chunk_is (suc m) (suc i) s h =
+    chunk_is m i (drop 16 s) (omega arith) ∙ ap (take 16) (drop-drop (i * 16) 16 s ∙ ap (λ (n : ℕ). drop n s) (omega arith))
+
+pub chunk_block : (m i : ℕ) (s : List ℕ) → i < m → block_of (get_or (first_chunks 16 m s) i []) ≡ block_of (drop (i * 16) s)
+chunk_block m i s h =
+    let t : List ℕ = drop (i * 16) s in
+    ap block_of (chunk_is m i s h) ∙ block_same (take 16 t) t (λ k l. get_or-take 16 t k 0 l)
 
 -- zeros after a string are in its block already
-pub block_padded : (xs : List ℕ) (m : ℕ) → block_of (xs ++ drop m (replicate 16 0)) ≡ block_of xs
-block_padded xs m =
-    let zs : List ℕ = drop m (replicate 16 0) in
-    block_same (xs ++ zs) xs
-    (λ k l.
-    ⊎_elim
-    (λ h. get_or_append_left xs zs 0 k h)
-    (λ h.
-    get_or-append_right xs zs (length xs) k 0 refl h ∙ get_or-drop m (replicate 16 0) (k - length xs) 0
-    ∙ zeros 16 (m + (k - length xs)) ∙ sym (get_or_past xs k 0 h))
-    (cases_lt k (length xs)))
+zeros_after : (xs : List ℕ) → block_of (xs ++ drop (length xs) (replicate 16 0)) ≡ block_of xs
+zeros_after xs = block_same (xs ++ drop (length xs) (replicate 16 0)) xs (λ k l. grind (arith, get_or_append_left, get_or-append_right, get_or-drop, get_or-replicate, get_or_past))
 
--- the two writes to the front of z, of x and y
-pub put_both_is : (z a t x y : List ℕ) → length a + length t ≤ length z → x ≡ a → y ≡ t
-    → put_mid (length a) (length a + length t - length a) (x ++ post_of 0 (length a - 0) z) y ≡ (a ++ t) ++ drop (length a + length t) z
-put_both_is z a t x y h ex ey =
-    let n : ℕ = length a + length t in
-    let k : ℕ = length a + length t - length a in
-    let w : List ℕ = x ++ post_of 0 (length a - 0) z in
-    let lx : length x ≡ length a = ap length ex in
-    let ly : length y ≡ length t = ap length ey in
-    let lw = length-append x (post_of 0 (length a - 0) z) in
-    let front : take n (put_mid (length a) k w y) ≡ a ++ t =
-    take-put_mid (length a) k w y n (omega arith) (omega arith)
-    ∙ ap (λ (s : List ℕ). s ++ y) (take_at x (post_of 0 (length a - 0) z) (length a) lx ∙ ex) ∙ ap (λ (s : List ℕ). a ++ s) ey in
-    let back : drop n (put_mid (length a) k w y) ≡ drop n z =
-    drop-put_mid (length a) k w y n (omega arith) (omega arith) (omega arith) ∙ drop-append-drop (length a - 0) z x n (omega arith) (omega arith) in
-    sym (take-append-drop n (put_mid (length a) k w y))
-    ∙ ap (λ (s : List ℕ). s ++ drop n (put_mid (length a) k w y)) front ∙ ap (λ (s : List ℕ). (a ++ t) ++ s) back
+-- the block of a and then t, written over the front of zeros
+pub block_padded : (a t : List ℕ) → block_of (a ++ (t ++ drop (length t) (drop (length a) (replicate 16 0)))) ≡ block_of (a ++ t)
+block_padded a t = let e = zeros_after (a ++ t) in ap block_of (simp (append_assoc, drop-drop, length-append)) ∙ e

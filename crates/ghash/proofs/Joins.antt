@@ -1,7 +1,7 @@
 -- GHASH block by block, and of one string after another.
-use Rattle.std.proofs.Common.{◌≡◌, ℕ, zero, suc, ◌+◌, ◌-◌, ◌*◌, ◌/◌, ◌<◌, ◌≤◌, min, List, [], ◌++◌, length, take, drop, sym, refl, ap, ◌∙◌, ⊎_elim, append_assoc, append-nil, add-zero, add-suc, arith}
+use Rattle.std.proofs.Common.{◌≡◌, ℕ, zero, suc, ◌+◌, ◌*◌, ◌/◌, ◌<◌, ◌≤◌, List, [], ◌++◌, length, drop, sym, refl, ap, ◌∙◌, ⊎_elim, append_assoc, append-nil, add-zero, add-suc, arith}
 use lib.Bits.{bit_xor}
-use Rattle.std.proofs.lemmas.List.{nil_from_length, length-append, length-drop, length-take-le, drop_at, drop-drop, drop-append-le, take-append-drop}
+use Rattle.std.proofs.lemmas.List.{nil_from_length, length-append, length-drop, drop_at, drop-drop, drop-append-le}
 use Rattle.std.proofs.lemmas.Bool.{cases_lt}
 use Rattle.ghash.specs.Ghash.{block_of, gmul, Y, ghash}
 use Rattle.ghash.proofs.Blocks.{block_append}
@@ -63,25 +63,17 @@ ghash_next h y b ys l e =
     (λ s. sym (ghash-append h 1 y b ys (omega arith)))
     (cases_lt (length b) 16)
 
--- the whole blocks of a, the block that holds the rest of a and n bytes of t, and the rest of t
-pub joined_is : (h y front middle r : ℕ) (a t : List ℕ) (at n : ℕ) → at ≡ length a / 16 * 16 → at < length a → n ≡ min (length t) (16 - (length a - at))
-    → front ≡ ghash h y (take at a)
-    → middle ≡ gmul (bit_xor front (block_of (drop at a ++ take n t))) h
-    → r ≡ ghash h middle (drop n t)
-    → r ≡ ghash h y (a ++ t)
-joined_is h y front middle r a t at n ea la en ef em er =
-    let b : List ℕ = drop at a ++ take n t in
-    let l0 : length (take at a) ≡ at = length-take-le at a (omega arith) in
-    let l1 : length (drop at a) ≡ length a - at = length-drop at a in
-    let l2 : length (take n t) ≡ n = length-take-le n t (omega arith) in
-    let l3 : length (drop n t) ≡ length t - n = length-drop n t in
-    let l4 = length-append (drop at a) (take n t) in
-    let j : b ++ drop n t ≡ drop at a ++ t =
-    append_assoc (drop at a) (take n t) (drop n t) ∙ ap (λ (s : List ℕ). drop at a ++ s) (take-append-drop n t) in
+-- whole blocks, a block of which a string ends and another begins, and the rest of the other
+pub joined_is : (h y m front middle r : ℕ) (whole rest begin end : List ℕ) → length whole ≡ m * 16
+    → 0 < length rest → length rest + length begin ≤ 16 → (length rest + length begin < 16 → length end ≡ 0)
+    → front ≡ ghash h y whole → middle ≡ gmul (bit_xor front (block_of (rest ++ begin))) h → r ≡ ghash h middle end
+    → r ≡ ghash h y ((whole ++ rest) ++ (begin ++ end))
+joined_is h y m front middle r whole rest begin end lw lr lb le ef em er =
+    let l = length-append rest begin in
     er
-    ∙ ap (λ (z : ℕ). ghash h z (drop n t)) (em ∙ one_block h front b (omega arith) (omega arith))
-    ∙ ghash_next h front b (drop n t) (omega arith) (λ s. omega arith)
-    ∙ ap (ghash h front) j
-    ∙ ap (λ (z : ℕ). ghash h z (drop at a ++ t)) ef
-    ∙ sym (ghash-append h (length a / 16) y (take at a) (drop at a ++ t) (omega arith))
-    ∙ ap (ghash h y) (sym (append_assoc (take at a) (drop at a) t) ∙ ap (λ (s : List ℕ). s ++ t) (take-append-drop at a))
+    ∙ ap (λ (z : ℕ). ghash h z end) (em ∙ one_block h front (rest ++ begin) (omega arith) (omega arith))
+    ∙ ghash_next h front (rest ++ begin) end (omega arith) (λ s. le (omega arith))
+    ∙ ap (ghash h front) (append_assoc rest begin end)
+    ∙ ap (λ (z : ℕ). ghash h z (rest ++ (begin ++ end))) ef
+    ∙ sym (ghash-append h m y whole (rest ++ (begin ++ end)) lw)
+    ∙ ap (ghash h y) (sym (append_assoc whole rest (begin ++ end)))

@@ -1,26 +1,28 @@
 -- The steps of the product, and its linearity.
-use Rattle.std.proofs.Common.{◌≡◌, ℕ, zero, suc, ◌+◌, ◌-◌, ◌*◌, ◌/◌, ◌%◌, ◌^◌, ◌<◌, [], ◌∷◌, get_or, sym, refl, ap, ◌∙◌, zero-mul, arith}
+use Rattle.std.proofs.Common.{◌≡◌, ℕ, zero, suc, ◌+◌, ◌-◌, ◌*◌, ◌/◌, ◌%◌, ◌^◌, ◌<◌, ◌≢◌, sym, refl, ap, ◌∙◌, zero-mul, one-mul, mul_assoc, arith}
 use lib.Bits.{bit_xor, xor_shr, xor_mod, xor_assoc, xor_comm, xor_self, xor_zero_r}
-use Rattle.std.proofs.lemmas.Nat.{shr-shr, field_of, mod-pow-add}
+use Rattle.std.proofs.lemmas.Nat.{pow-add, shl-shr, shr-shr, field_of, mul-mod_first}
 use Rattle.ghash.specs.Ghash.{times_x, V, bit, Z, gmul}
 
-mod_mod_two : (n i : ℕ) → n % 2 ^ (i + 1) % 2 ≡ n % 2
-mod_mod_two n i = let e = mod-pow-add n i 1 in omega arith
+-- the first bit of what is left of x
+pub first_bit : (x i : ℕ) → i < 128 → x * 2 ^ i % 2 ^ 128 / 2 ^ 127 ≡ bit x i
+first_bit x i h =
+    let e : 127 ≡ i + (127 - i) = omega arith in
+    field_of (x * 2 ^ i) 1 127
+    ∙ ap (λ (k : ℕ). x * 2 ^ i / 2 ^ k % 2) e
+    ∙ ap (λ (n : ℕ). n % 2) (sym (shr-shr (x * 2 ^ i) i (127 - i)) ∙ ap (λ (n : ℕ). n / 2 ^ (127 - i)) (shl-shr x i))
 
--- a bit of a block, read from the half of the block that it stands in
-pub word_bit : (x k i : ℕ) → k < 2 → i < 64
-    → get_or (x / 18446744073709551616 ∷ x % 18446744073709551616 ∷ []) k 0 / 2 ^ (63 - i) % 2 ≡ bit x (k * 64 + i)
-word_bit x zero i hk hi =
-    let e : 64 + (63 - i) ≡ 127 - (0 * 64 + i) = omega arith in
-    ap (λ (n : ℕ). n % 2) (shr-shr x 64 (63 - i) ∙ ap (λ (n : ℕ). x / 2 ^ n) e)
-word_bit x (suc zero) i hk hi =
-    let e : 64 ≡ (i + 1) + (63 - i) = omega arith in
-    let f : 63 - i ≡ 127 - (1 * 64 + i) = omega arith in
-    ap (λ (n : ℕ). x % 2 ^ n / 2 ^ (63 - i) % 2) e
-    ∙ ap (λ (n : ℕ). n % 2) (field_of x (i + 1) (63 - i))
-    ∙ mod_mod_two (x / 2 ^ (63 - i)) i
-    ∙ ap (λ (n : ℕ). x / 2 ^ n % 2) f
-word_bit x (suc (suc k)) i hk hi = absurd (omega arith)
+pub next_bits : (x i : ℕ) → x * 2 ^ i % 2 ^ 128 * 2 % 2 ^ 128 ≡ x * 2 ^ (i + 1) % 2 ^ 128
+next_bits x i = simp (mul-mod_first, pow-add, mul_assoc)
+
+-- what is added for a bit
+pub added : (z b v : ℕ) → b ≡ 1 → bit_xor z v ≡ bit_xor z (b * v)
+added z b v e = rw (e, one-mul)
+
+pub not_added : (z b v : ℕ) → b < 2 → b ≢ 1 → z ≡ bit_xor z (b * v)
+not_added z b v l other =
+    let e : b ≡ 0 = omega arith in
+    rw (e, zero-mul, xor_zero_r)
 
 -- one step more
 pub next_Z : (x y i n z v b w : ℕ) → n ≡ suc i → z ≡ Z x y i → v ≡ V y i → b ≡ bit x i → w ≡ bit_xor z (b * v) → w ≡ Z x y n
@@ -35,9 +37,7 @@ next_V y i n v w e hv hw = hw ∙ ap times_x hv ∙ ap (V y) (sym e)
 
 -- (a + b) + (c + d), regrouped
 regroup : (a b c d : ℕ) → bit_xor (bit_xor a b) (bit_xor c d) ≡ bit_xor (bit_xor a c) (bit_xor b d)
-regroup a b c d =
-    xor_assoc a b (bit_xor c d) ∙ ap (bit_xor a) (sym (xor_assoc b c d) ∙ ap (λ (t : ℕ). bit_xor t d) (xor_comm b c) ∙ xor_assoc c b d)
-    ∙ sym (xor_assoc a c (bit_xor b d))
+regroup a b c d = cc (xor_assoc a b (bit_xor c d), xor_assoc b c d, xor_comm b c, xor_assoc c b d, xor_assoc a c (bit_xor b d))
 
 -- bits times v, added
 scale : (p q v : ℕ) → p < 2 → q < 2 → bit_xor p q * v ≡ bit_xor (p * v) (q * v)
