@@ -127,22 +127,18 @@ fn gctr(schedule: &Schedule, iv: [u32; 3], counter: u32, text: &mut [u8]) {
     }
 }
 
-fn add_if(z: u128, bit: u64, v: u128) -> u128 {
-    if bit == 1 { z ^ v } else { z }
-}
-
 fn half(v: u128) -> u128 {
     if v % 2 == 1 { v / 2 ^ 0xe1 << 120 } else { v / 2 }
 }
 
 fn product(x: u128, y: u128) -> u128 {
-    let words = [(x >> 64) as u64, x as u64];
-    let (mut z, mut v) = (0u128, y);
-    for k in 0..2 {
-        for i in 0..64u32 {
-            z = add_if(z, (words[k] >> (63 - i)) % 2, v);
-            v = half(v);
+    let (mut z, mut v, mut bits) = (0u128, y, x);
+    for _ in 0..128 {
+        if bits >> 127 == 1 {
+            z ^= v;
         }
+        bits <<= 1;
+        v = half(v);
     }
     z
 }

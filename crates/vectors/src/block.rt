@@ -14,15 +14,15 @@ pub(crate) fn check_block(key: &[u8], plaintext: &[u8], ciphertext: &[u8]) -> an
 /// Whether the round keys are these, and no more.
 pub(crate) fn check_expansion(key: &[u8], keys: &[u8]) -> anyhow::Result<()> {
     let schedule = Schedule::new(key);
-    let count = keys.len() / 16;
-    for r in 0..count {
+    let (keys, _) = keys.as_chunks::<16>();
+    for (r, key) in keys.iter().enumerate() {
         let Some(round_key) = schedule.round_key(r) else {
             return Err(anyhow!("too few round keys"));
         };
-        expect(
-            round_key.to_bytes() == array::<16>(&keys[r * 16..r * 16 + 16])?,
-            "a round key differs",
-        )?;
+        expect(round_key.to_bytes() == *key, "a round key differs")?;
     }
-    expect(schedule.round_key(count).is_none(), "too many round keys")
+    expect(
+        schedule.round_key(keys.len()).is_none(),
+        "too many round keys",
+    )
 }

@@ -1,5 +1,5 @@
 use crate::hex::{array, expect, hex};
-use aead::aead::Aead;
+use aead::aead::{Aead, KeyedCipher};
 use aead::key::{KeySize, SecureKey};
 use aead::recorded::RecordedNonces;
 use aead::source::NonceSource;
@@ -7,7 +7,7 @@ use anyhow::anyhow;
 use std::alloc::Global;
 
 /// A sealed text: what was sealed, and what it was sealed to.
-#[derive(Drop)]
+#[derive(Clone, Drop)]
 pub(crate) struct Case {
     key: Vec<u8>,
     nonce: [u8; 12],
@@ -31,25 +31,22 @@ impl Case {
             tag: array::<16>(&hex(heap, tag)?)?,
         })
     }
+}
 
-    fn copy(&self, heap: Global) -> anyhow::Result<Case> {
-        Ok(Case {
-            key: self.key.as_slice().to_vec(heap)?,
-            nonce: self.nonce,
-            aad: self.aad.as_slice().to_vec(heap)?,
-            plaintext: self.plaintext.as_slice().to_vec(heap)?,
-            ciphertext: self.ciphertext.as_slice().to_vec(heap)?,
-            tag: self.tag,
-        })
-    }
+/// What one bit is flipped of in a damaged copy.
+#[derive(Clone, Copy)]
+enum Part {
+    Tag(usize),
+    Nonce,
+    Key,
+    Aad,
+    Ciphertext,
 }
 
 /// Puts the key into key memory, and gives its size.
 fn load(key: &[u8], memory: &mut [u8; 32]) -> anyhow::Result<KeySize> {
     let size = KeySize::of(key.len(), memory.len())?;
-    for (place, b) in memory.iter_mut().zip(key.iter()) {
-        *place = *b;
-    }
+    memory[..key.len()].copy_from_slice(key);
     Ok(size)
 }
 
@@ -61,94 +58,79 @@ fn seal<A: Aead>(
     text: &mut [u8],
 ) -> anyhow::Result<[u8; 16]> {
     let mut memory = [0u8; 32];
-    let size = load(case.key.as_slice(), &mut memory)?;
+    let size = load(&case.key, &mut memory)?;
     let key = SecureKey::new(&mut memory, size);
+    let keyed = KeyedCipher { cipher, key: &key };
     let mut nonces = RecordedNonces::new(heap, &[case.nonce])?;
     let nonce = nonces.draw()?;
-    Ok(cipher.seal(&key, nonce, case.aad.as_slice(), text))
+    Ok(keyed.seal(nonce, &case.aad, text))
 }
 
 /// Whether the case opens, in place and into other memory alike; if so to its plaintext, and if not nothing changes.
 fn opens<A: Aead>(heap: Global, cipher: &A, case: &Case) -> anyhow::Result<bool> {
     let mut memory = [0u8; 32];
-    let size = load(case.key.as_slice(), &mut memory)?;
+    let size = load(&case.key, &mut memory)?;
     let key = SecureKey::new(&mut memory, size);
-    let mut text = case.ciphertext.as_slice().to_vec(heap)?;
+    let keyed = KeyedCipher { cipher, key: &key };
+    let mut text = case.ciphertext.clone()?;
     let mut out = vec![in heap; 7u8; case.ciphertext.len()]?;
-    let opened = cipher
-        .open(
-            &key,
-            &case.nonce,
-            case.aad.as_slice(),
-            text.as_mut_slice(),
-            &case.tag,
-        )
+    let opened = keyed
+        .open(&case.nonce, &case.aad, &mut text, &case.tag)
         .is_ok();
-    let copied = cipher
+    let copied = keyed
         .open_into(
-            &key,
             &case.nonce,
-            case.aad.as_slice(),
-            case.ciphertext.as_slice(),
+            &case.aad,
+            &case.ciphertext,
             &case.tag,
-            out.as_mut_slice(),
+            &mut out,
         )
         .is_ok();
     expect(opened == copied, "the two ways of opening differ")?;
     if opened {
-        expect(
-            text.as_slice() == case.plaintext.as_slice(),
-            "opened to another plaintext",
-        )?;
-        expect(
-            out.as_slice() == case.plaintext.as_slice(),
-            "opened into another plaintext",
-        )?;
+        expect(text == case.plaintext, "opened to another plaintext")?;
+        expect(out == case.plaintext, "opened into another plaintext")?;
     } else {
-        expect(
-            text.as_slice() == case.ciphertext.as_slice(),
-            "a refusal changed the text",
-        )?;
-        for b in out.iter() {
-            expect(*b == 7, "a refusal changed the memory")?;
-        }
+        expect(text == case.ciphertext, "a refusal changed the text")?;
+        expect(out.iter().all(|b| *b == 7), "a refusal changed the memory")?;
     }
     Ok(opened)
 }
 
+/// Flips one bit of a byte, and says whether there is one.
 fn flip(bytes: &mut [u8], at: usize) -> bool {
-    if at < bytes.len() {
-        bytes[at] ^= 1;
-        return true;
+    match bytes.get_mut(at) {
+        Some(b) => {
+            *b ^= 1;
+            true
+        }
+        None => false,
     }
-    false
 }
 
-/// One bit flipped: of the tag's bytes 0 to 15, the nonce, the key, the AAD or the ciphertext. False where there is no such byte.
-fn damage(case: &mut Case, which: usize) -> bool {
-    match which {
-        0..=15 => flip(&mut case.tag, which),
-        16 => flip(&mut case.nonce, 11),
-        17 => flip(case.key.as_mut_slice(), 0),
-        18 => flip(case.aad.as_mut_slice(), 0),
-        _ => flip(case.ciphertext.as_mut_slice(), 0),
+/// One bit of a part flipped. False where the part has no such byte.
+fn damage(case: &mut Case, part: Part) -> bool {
+    match part {
+        Part::Tag(at) => flip(&mut case.tag, at),
+        Part::Nonce => flip(&mut case.nonce, 11),
+        Part::Key => flip(&mut case.key, 0),
+        Part::Aad => flip(&mut case.aad, 0),
+        Part::Ciphertext => flip(&mut case.ciphertext, 0),
     }
 }
 
 /// Seals and opens the case, and sees that damaged copies are refused; gives how many there were.
 pub(crate) fn check_case<A: Aead>(heap: Global, cipher: &A, case: &Case) -> anyhow::Result<u32> {
-    let mut text = case.plaintext.as_slice().to_vec(heap)?;
-    let tag = seal(heap, cipher, case, text.as_mut_slice())?;
-    expect(
-        text.as_slice() == case.ciphertext.as_slice(),
-        "sealed to another ciphertext",
-    )?;
+    let mut text = case.plaintext.clone()?;
+    let tag = seal(heap, cipher, case, &mut text)?;
+    expect(text == case.ciphertext, "sealed to another ciphertext")?;
     expect(tag == case.tag, "sealed with another tag")?;
     expect(opens(heap, cipher, case)?, "does not open")?;
+    let others = [Part::Nonce, Part::Key, Part::Aad, Part::Ciphertext];
     let mut damaged = 0u32;
-    for which in 0..20 {
-        let mut copy = case.copy(heap)?;
-        if damage(&mut copy, which) {
+    for part in (0..16).map(Part::Tag).chain(others) {
+        let mut copy = case.clone()?;
+        if damage(&mut copy, part) {
             expect(!opens(heap, cipher, &copy)?, "a damaged copy opens")?;
             damaged = damaged.saturating_add(1);
         }

@@ -23,21 +23,16 @@ pub(crate) fn hex(heap: Global, word: &str) -> anyhow::Result<Vec<u8>> {
     if word == "-" {
         return Ok(bytes);
     }
-    let digits = word.as_bytes();
-    for i in 0..digits.len() / 2 {
-        bytes.push(byte(digits[i * 2], digits[i * 2 + 1])?)?;
+    let (pairs, _) = word.as_bytes().as_chunks::<2>();
+    for [high, low] in pairs {
+        bytes.push(byte(*high, *low)?)?;
     }
     Ok(bytes)
 }
 
 /// Bytes that are exactly N.
 pub(crate) fn array<const N: usize>(bytes: &[u8]) -> anyhow::Result<[u8; N]> {
-    if bytes.len() != N {
-        return Err(anyhow!("a word of another length"));
-    }
-    let mut all = [0u8; N];
-    all.copy_from_slice(bytes);
-    Ok(all)
+    <[u8; N]>::try_from(bytes).map_err(|_| anyhow!("a word of another length"))
 }
 
 pub(crate) fn expect(holds: bool, otherwise: &str) -> anyhow::Result<()>
