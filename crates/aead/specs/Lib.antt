@@ -4,4 +4,3 @@ pub mod Keys
 pub mod Recorded
 pub mod Seals
 pub mod Counts
-pub mod Records

@@ -36,14 +36,11 @@ impl NonceSource for CounterNonces {
     ghost twelve = { λ s. from_twelve s.fixed s.next s.four };
 
     fn draw(&mut self) -> Result<Nonce, CipherError> {
-        let Some(n) = self.next else {
-            return Err(CipherError::NoncesExhausted);
-        };
+        let n = self.next.ok_or(CipherError::NoncesExhausted)?;
         self.next = n.checked_add(1);
-        let [a, b, c, d] = self.fixed;
-        let [e, f, g, h, i, j, k, l] = n.to_be_bytes();
-        Ok(Nonce {
-            bytes: [a, b, c, d, e, f, g, h, i, j, k, l],
-        })
+        let mut bytes = [0; 12];
+        bytes[..4].copy_from_slice(&self.fixed);
+        bytes[4..].copy_from_slice(&n.to_be_bytes());
+        Ok(Nonce { bytes })
     }
 }

@@ -7,7 +7,7 @@ use error::cipher::CipherError;
 pub const KEY_MEMORY: usize = 32;
 
 /// The lengths that a key may have.
-#[derive(Clone, Copy)]
+#[derive(Clone, Copy, PartialEq, Eq, Debug)]
 pub enum KeySize {
     Bits128,
     Bits192,
@@ -20,16 +20,13 @@ impl KeySize {
     pub fn of(length: usize, memory: usize) -> Result<KeySize, CipherError>
         ensures { result ≡ key_size length memory }
     {
-        let size = match length {
-            16 => KeySize::Bits128,
-            24 => KeySize::Bits192,
-            32 => KeySize::Bits256,
-            _ => return Err(CipherError::KeyLength),
-        };
-        if memory < KEY_MEMORY {
-            return Err(CipherError::MemoryTooSmall);
+        match length {
+            16 | 24 | 32 if memory < KEY_MEMORY => Err(CipherError::MemoryTooSmall),
+            16 => Ok(KeySize::Bits128),
+            24 => Ok(KeySize::Bits192),
+            32 => Ok(KeySize::Bits256),
+            _ => Err(CipherError::KeyLength),
         }
-        Ok(size)
     }
 
     /// The key's length in bytes.
@@ -64,11 +61,8 @@ impl Drop for SecureKey<'_> {
 pub fn wipe(mem: &mut [u8])
     ensures { mem.new ≡ wiped mem.old }
 {
-    if mem.len() < KEY_MEMORY {
-        mem.fill(0);
-    } else {
-        mem[0..32].fill(0);
-    }
+    let n = mem.len().min(KEY_MEMORY);
+    mem[..n].fill(0);
 }
 
 impl<'m> SecureKey<'m> {
@@ -85,11 +79,7 @@ impl<'m> SecureKey<'m> {
     pub fn bytes(&self) -> &[u8]
         ensures { result.now ≡ key_bytes self.now.size self.now.mem.now }
     {
-        let n = self.size.bytes();
-        if self.mem.len() < n {
-            &self.mem[0..]
-        } else {
-            &self.mem[0..n]
-        }
+        let n = self.size.bytes().min(self.mem.len());
+        &self.mem[..n]
     }
 }

@@ -1,32 +1,32 @@
-ghost use Rattle.std.specs.Prelude.{◌≡◌, drop, Decides, MatchResult};
+ghost use Rattle.std.specs.Prelude.{◌≡◌, Decides, MatchResult};
+ghost use Rattle.std.specs.Vec.Iter.{into_iter_items};
 ghost use Rattle.aead.specs.Draws.{Distinct};
-ghost use Rattle.aead.specs.Recorded.{TwelveAt, Twice, Unrecorded};
-ghost use Rattle.aead.specs.Records.{drop_distinct, drop_twelve};
+ghost use Rattle.aead.specs.Recorded.{TwelveAt, Twice, Unrecorded, twelve_all};
 
 use crate::nonce::Nonce;
 use crate::source::NonceSource;
 use error::cipher::CipherError;
 use std::alloc::Global;
+use std::vec::IntoIter;
 
 /// The nonces of a recorded list, in its order.
 #[derive(Drop)]
 pub struct RecordedNonces {
-    nonces: Vec<[u8; 12]>,
-    next: usize,
-    ghost different: { Distinct nonces.items },
-    ghost twelve: { TwelveAt nonces.items },
+    nonces: IntoIter<[u8; 12]>,
+    ghost different: { Distinct (into_iter_items nonces) },
+    ghost twelve: { TwelveAt (into_iter_items nonces) },
 }
 
 impl RecordedNonces {
     /// The nonces of that list: refused where some nonce stands twice, and then where there is no memory.
     pub fn new(heap: Global, nonces: &[[u8; 12]]) -> Result<RecordedNonces, CipherError>
-        ensures { MatchResult result (λ s. Distinct nonces.now × (drop s.next s.nonces.items ≡ nonces.now)) (λ e. Unrecorded nonces.now e) }
+        ensures { MatchResult result (λ s. Distinct nonces.now × (into_iter_items s.nonces ≡ nonces.now)) (λ e. Unrecorded nonces.now e) }
     {
         if any_twice(nonces) {
             return Err(CipherError::Duplicate);
         }
-        let nonces = Vec::from_slice(heap, nonces)?;
-        Ok(RecordedNonces { nonces, next: 0 })
+        let nonces = Vec::from_slice(heap, nonces)?.into_iter();
+        Ok(RecordedNonces { nonces })
     }
 }
 
@@ -34,29 +34,21 @@ impl RecordedNonces {
 fn any_twice(nonces: &[[u8; 12]]) -> bool
     ensures { Decides result (Twice nonces.now) }
 {
-    for j in 0..nonces.len() {
-        for i in 0..j {
-            if nonces[i] == nonces[j] {
-                return true;
-            }
-        }
-    }
-    false
+    nonces
+        .iter()
+        .enumerate()
+        .any(|(j, nonce)| nonces[..j].contains(nonce))
 }
 
 impl NonceSource for RecordedNonces {
-    ghost left = { λ s. drop s.next s.nonces.items };
+    ghost left = { λ s. into_iter_items s.nonces };
 
-    ghost different = { λ s. drop_distinct s.next s.nonces.items s.different };
+    ghost different = { λ s. s.different };
 
-    ghost twelve = { λ s. drop_twelve s.next s.nonces.items s.twelve };
+    ghost twelve = { λ s. twelve_all (into_iter_items s.nonces) s.twelve };
 
     fn draw(&mut self) -> Result<Nonce, CipherError> {
-        if self.next >= self.nonces.len() {
-            return Err(CipherError::NoncesExhausted);
-        }
-        let bytes = self.nonces[self.next];
-        self.next += 1;
+        let bytes = self.nonces.next().ok_or(CipherError::NoncesExhausted)?;
         Ok(Nonce { bytes })
     }
 }

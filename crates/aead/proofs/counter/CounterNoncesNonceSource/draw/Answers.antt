@@ -1,8 +1,11 @@
-use Rattle.aead.specs.Counts.{drawn}
+use Rattle.std.proofs.Common.{◌≡◌, Some, refl, ◌∙◌, rules}
+use Rattle.aead.proofs.Draws.{drawn, written}
 use Rattle.aead.proofs.counter.CounterNoncesNonceSource.draw.Goals as goal
 
 pub returns : goal.returns
 returns c =
-    let h = c.args.self.now.fits c.in-Some.n c.in-Some.is in
-    drawn c.args.self.now.fixed c.to_be_bytes.result c.args.self.now.next c.in-Some.n c.checked_add-self.result
-    c.args.self.now.four c.in-Some.is h c.to_be_bytes.ensures c.checked_add-self.ensures
+    let self = c.args.self.now in
+    let is : self.next ≡ Some c.in_ok-n.n = search rules in
+    drawn self.fixed _ self.next c.in_ok-n.n c.checked_add-self.result is (self.fits c.in_ok-n.n is)
+    (written c.copy_from_slice.new.self c.copy_from_slice-2.new.self _ 4 8 c.copy_from_slice.ensures.len refl ∙ cc)
+    c.checked_add-self.ensures
