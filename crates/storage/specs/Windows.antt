@@ -6,7 +6,7 @@ use Rattle.storage.specs.Answers.{range}
 use Rattle.storage.specs.declared.window.Window.{Window}
 
 abbrev pub window_bytes : {R : Type 0} → (R → List ℕ) → Window R → List ℕ
-window_bytes bytes w = range w.from (w.to - w.from) (bytes w.source)
+window_bytes bytes w = range w.range.start (w.range.end - w.range.start) (bytes w.source)
 
 -- the making of a window from one place to another: refused exactly where the source does not answer that range
 abbrev pub Windowed : {R : Type 0} → (R → List ℕ) → R → ℕ → ℕ → Result (Window R) StorageError → Type 0

@@ -25,8 +25,7 @@ impl<S> Limit<S> {
     pub fn into_inner(self) -> S
         ensures { result ≡ self.inner }
     {
-        let Limit { inner, left: _ } = self;
-        inner
+        self.inner
     }
 }
 
@@ -40,12 +39,12 @@ impl<S: FileWrite> FileWrite for Limit<S> {
         ensures lent { S.FileWrite.loans self.new.inner ≡ S.FileWrite.loans self.old.inner }
         ensures passed { Passed S.FileWrite.port self.old bytes.now result self.new }
     {
-        let n = bytes.len() as u64;
-        if n > self.left {
-            return Err(StorageError::BlockNotTaken);
-        }
+        let left = self
+            .left
+            .checked_sub(bytes.len() as u64)
+            .ok_or(StorageError::BlockNotTaken)?;
         self.inner.write(bytes)?;
-        self.left -= n;
+        self.left = left;
         Ok(())
     }
 

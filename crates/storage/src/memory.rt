@@ -5,6 +5,7 @@ ghost use Rattle.std.specs.Prelude.{◌≡◌, ◌+◌, ◌<◌, ◌≤◌, vec_
 #[derive(Drop)]
 pub struct MemoryFile {
     pub(crate) bytes: Vec<u8>,
+    // Kept beside the capacity, of which a write to a `Vec` promises only that it does not shrink.
     pub(crate) room: usize,
     pub(crate) open: bool,
     ghost reserved: { vec_len bytes + room ≤ vec_capacity bytes },

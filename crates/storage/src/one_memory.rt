@@ -43,13 +43,12 @@ impl FileWrite for MemoryFile {
     ghost port = { memory_port };
 
     fn write(&mut self, bytes: &[u8]) -> Result<(), StorageError> {
-        let n = bytes.len();
-        if !self.open || n > self.room {
+        if !self.open || bytes.len() > self.room {
             return Err(StorageError::BlockNotTaken);
         }
         // The capacity is reserved, so this is not refused.
         let _ = self.bytes.extend_from_slice(bytes);
-        self.room -= n;
+        self.room -= bytes.len();
         Ok(())
     }
 
@@ -62,6 +61,6 @@ impl FileRead for MemoryFile {
     ghost bytes = { memory_bytes };
 
     fn read(&self, at: u64, into: &mut [u8]) -> Result<(), StorageError> {
-        copy_range(self.bytes.as_slice(), at, into)
+        copy_range(&self.bytes, at, into)
     }
 }

@@ -50,12 +50,10 @@ impl<'a> FileRead for MemorySource<'a> {
 pub(crate) fn copy_range(memory: &[u8], at: u64, into: &mut [u8]) -> Result<(), StorageError>
     ensures { Answered memory.now at into.old result into.new }
 {
-    let size = memory.len();
-    let n = into.len();
-    let at = at as usize;
-    if at > size || n > size - at {
-        return Err(StorageError::SourceRefused);
-    }
-    into.copy_from_slice(&memory[at..at + n]);
+    let rest = memory
+        .get(at as usize..)
+        .ok_or(StorageError::SourceRefused)?;
+    let bytes = rest.get(..into.len()).ok_or(StorageError::SourceRefused)?;
+    into.copy_from_slice(bytes);
     Ok(())
 }

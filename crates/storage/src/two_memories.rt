@@ -1,7 +1,7 @@
-ghost use Rattle.std.specs.Prelude.{◌≡◌, ◌+◌, ◌++◌, MatchResult};
+ghost use Rattle.std.specs.Prelude.{◌≡◌, ◌+◌, ◌++◌, MatchResult, IfOk};
 ghost use Rattle.error.specs.declared.storage.StorageError.TheVariants.{OutOfMemory};
 ghost use Rattle.storage.specs.Answers.{Answered};
-ghost use Rattle.storage.specs.Memories.{two_port, two_bytes, ReadsTaken};
+ghost use Rattle.storage.specs.Memories.{memory_port, two_port, two_bytes, ReadsTaken};
 ghost use Rattle.storage.specs.Ports.{fresh};
 
 use crate::memory::{MemoryFile, TwoMemories};
@@ -15,6 +15,7 @@ impl TwoMemories {
     /// no memory for them.
     pub fn new(heap: Global, front: usize, back: usize) -> Result<TwoMemories, StorageError>
         ensures made { MatchResult result (λ m. two_port m ≡ fresh (front + back)) (λ e. e ≡ OutOfMemory) }
+        ensures rooms { IfOk result (λ m. (memory_port m.first ≡ fresh front) × (memory_port m.second ≡ fresh back)) }
         ensures same { ReadsTaken two_port two_bytes }
     {
         let first = MemoryFile::new(heap, front)?;
@@ -27,14 +28,12 @@ impl FileWrite for TwoMemories {
     ghost port = { two_port };
 
     fn write(&mut self, bytes: &[u8]) -> Result<(), StorageError> {
-        let n = bytes.len();
-        let head = n.min(self.first.room);
-        if !self.first.open || !self.second.open || n - head > self.second.room {
+        let (front, back) = bytes.split_at(bytes.len().min(self.first.room));
+        if !self.first.open || !self.second.open || back.len() > self.second.room {
             return Err(StorageError::BlockNotTaken);
         }
-        self.first.write(&bytes[0..head])?;
-        self.second.write(&bytes[head..n])?;
-        Ok(())
+        self.first.write(front)?;
+        self.second.write(back)
     }
 
     fn close(&mut self) {
@@ -79,15 +78,12 @@ impl<'a> FileRead for TwoMemorySource<'a> {
 fn copy_across(front: &[u8], back: &[u8], at: u64, into: &mut [u8]) -> Result<(), StorageError>
     ensures { Answered (front.now ++ back.now) at into.old result into.new }
 {
-    let n = into.len();
-    // What the first has of the range, and where the rest stands in the second.
-    let start = (at as usize).min(front.len());
-    let head = n.min(front.len() - start);
-    let skip = at as usize - start;
-    if skip > back.len() || n - head > back.len() - skip {
-        return Err(StorageError::SourceRefused);
-    }
-    copy_range(front, start as u64, &mut into[0..head])?;
-    copy_range(back, skip as u64, &mut into[head..n])?;
+    // Where the range begins in each, and how much of it the first has.
+    let skip = at.saturating_sub(front.len() as u64);
+    let front = &front[(at as usize).min(front.len())..];
+    let head = into.len().min(front.len());
+    // The second memory comes first, since it alone may refuse.
+    copy_range(back, skip, &mut into[head..])?;
+    into[..head].copy_from_slice(&front[..head]);
     Ok(())
 }

@@ -1,26 +1,15 @@
-use Rattle.std.proofs.Common.{◌+◌, ◌-◌, ◌<◌, length, refl, arith, rules}
-use Rattle.std.proofs.lemmas.List.{length-append, places}
-use Rattle.storage.proofs.Seams.{across}
+use Rattle.std.proofs.Common.{rules, length, ap, arith}
+use Rattle.std.proofs.lemmas.List.{length-append, length-drop}
+use Rattle.storage.proofs.Ranges.{across, from_place}
 use Rattle.storage.proofs.two_memories.copy_across.Goals as goal
-use Rattle.storage.proofs.two_memories.copy_across.Goals.{then-skip-back-via-then-skip-back, then-skip-back-via-else-skip-back+then-n-head}
-
-pub returns-then-skip-back : goal.returns-then-skip-back
-returns-then-skip-back c =
-    let F = c.args.front.now in
-    let S = c.args.back.now in
-    let l = length-append F S in
-    let h : length F + length S < c.args.at + length c.args.into.now =
-    elim c.then-skip-back.branch [ then-skip-back-via-then-skip-back w ↦ omega arith | then-skip-back-via-else-skip-back+then-n-head w ↦ omega arith ] in
-    (omega arith, refl, refl)
 
 pub returns : goal.returns
 returns c =
     let F = c.args.front.now in
     let S = c.args.back.now in
-    let l = length-append F S in
-    let a = c.in_ok-copy_range.ensures in
-    let b = c.in_ok-copy_range-2.ensures in (
-      omega arith,
-      across F S c.args.into.now c.copy_range.new.into c.copy_range-2.new.into c.args.at c.min-start.result c.min-head.result (c.args.at - c.min-start.result)
-          _ _ (omega arith) (omega arith) refl b.0 (search (rules, places)) (search (rules, places)) a.1 b.1,
+    let f = from_place c.args.at c.min.result F c.min.ensures in
+    let b = c.in_ok-copy_range.ensures in (
+      omega (arith, b.0, length-append F S, ap length f, length-drop c.args.at F),
+      across F S c.args.into.now _ _ _ c.args.at c.min-head.result c.saturating_sub-skip.result _ f c.saturating_sub-skip.ensures c.min-head.ensures
+          (search rules) c.copy_from_slice.ensures.after b.1,
     )
