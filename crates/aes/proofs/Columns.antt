@@ -1,11 +1,12 @@
 -- A column of a round, as the code works it out from the table of products.
 use Rattle.std.proofs.Common.{◌≡◌, ℕ, ◌*◌, ◌/◌, ◌%◌, ◌^◌, ◌<◌, arith}
+use Rattle.std.proofs.lemmas.Nat.{from_be_bytes-to_be_bytes_4}
 use lib.Bits.{bit_xor, bit_or}
 use Rattle.aes.specs.Field.{product}
 use Rattle.aes.specs.Words.{byte0, byte1, byte2, byte3, word_bytes}
 use Rattle.aes.specs.Cipher.{mix_column, mixed_byte, xor_bytes}
 use Rattle.aes.proofs.Bytes.{low_byte, xor_byte, product_lt}
-use Rattle.aes.proofs.Words.{xor_word, word_of_bytes, bytes_of_word, rot8, rot16, rot24}
+use Rattle.aes.proofs.Words.{xor_word, bytes_of_word, rot8, rot16, rot24}
 
 twice : (a : ℕ) → product 2 a < 256
 twice a = product_lt 2 a (omega arith)
@@ -31,7 +32,7 @@ column_is a b c d k ha hb hc hd hk =
     (xor_byte (xor_byte ha b2) c3) (xor_byte (xor_byte ha hb) c2) (xor_byte (xor_byte a3 hb) hc) hd d3 d2 in
     let s4 = xor_word (bit_xor (bit_xor (bit_xor (product 2 a) (product 3 b)) c) d) _ _ _ (byte0 k) (byte1 k) (byte2 k) (byte3 k)
     (xor_byte (xor_byte (xor_byte ha b2) c3) hd) (xor_byte (xor_byte (xor_byte ha hb) c2) d3) (xor_byte (xor_byte (xor_byte a3 hb) hc) d2) k1 k2 k3 in
-    let kw = word_of_bytes k hk in
+    let kw = from_be_bytes-to_be_bytes_4 k hk in
     let end = bytes_of_word _ _ _ _
     (xor_byte (xor_byte (xor_byte (xor_byte a2 b3) hc) hd) k0) (xor_byte (xor_byte (xor_byte (xor_byte ha b2) c3) hd) k1)
     (xor_byte (xor_byte (xor_byte (xor_byte ha hb) c2) d3) k2) (xor_byte (xor_byte (xor_byte (xor_byte a3 hb) hc) d2) k3) in

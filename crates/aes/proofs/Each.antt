@@ -1,17 +1,9 @@
 -- The values of a function from a place on.
-use Rattle.std.proofs.Common.{◌≡◌, ℕ, zero, suc, ◌+◌, ◌<◌, ◌≤◌, List, [], ◌∷◌, ◌++◌, map, length, get_or, take, drop, sym, refl, ap, ◌∙◌, add-zero, arith}
-use Rattle.std.proofs.lemmas.List.{drop_more}
+use Rattle.std.proofs.Common.{◌≡◌, ℕ, zero, suc, ◌+◌, ◌<◌, ◌≤◌, List, ◌∷◌, map, length, get_or, take, drop, sym, refl, ap, ◌∙◌, arith}
+use Rattle.std.proofs.lemmas.List.{drop_more, map-id}
 use Rattle.aes.specs.KeyExpansion.{each}
 
 module _ {X : Type 0} where
-  -- one more at the end
-  pub each_more : (f : ℕ → X) (i n : ℕ) → each f i (suc n) ≡ each f i n ++ f (i + n) ∷ []
-  unfolding each
-  each_more f i zero = ap (λ (k : ℕ). f k ∷ []) (sym (add-zero i))
-  each_more f i (suc n) =
-      let e : i + 1 + n ≡ i + suc n = omega arith in
-      ap (λ (xs : List X). f i ∷ xs) (each_more f (i + 1) n ∙ ap (λ (k : ℕ). each f (i + 1) n ++ f k ∷ []) e)
-
   pub each_same : (f g : ℕ → X) (i n : ℕ) → ((k : ℕ) → k < i + n → f k ≡ g k) → each f i n ≡ each g i n
   unfolding each
   each_same f g i zero h = refl
@@ -28,3 +20,9 @@ module _ {X Y : Type 0} (f : X → Y) (xs : List X) (d : X) where
   each_part i (suc n) h =
       ap (λ (ys : List X). map f (take (suc n) ys)) (drop_more xs i d (omega arith))
       ∙ ap (λ (ys : List Y). f (get_or xs i d) ∷ ys) (each_part (i + 1) n (omega arith))
+
+-- the front of a list that holds the values from 0 on
+pub front : {X : Type 0} (f : ℕ → X) (xs : List X) (d : X) (n : ℕ) → n ≤ length xs → ((k : ℕ) → k < n → get_or xs k d ≡ f k) → take n xs ≡ each f 0 n
+front f xs d n l h =
+    sym (map-id (take n xs)) ∙ each_part (λ x. x) xs d 0 n (omega arith)
+    ∙ each_same (λ k. get_or xs k d) f 0 n (λ k m. h k (omega arith))

@@ -1,8 +1,7 @@
 -- The key expansion, word by word.
 use Rattle.std.proofs.Common.{◌≡◌, ℕ, zero, suc, ◌+◌, ◌-◌, ◌*◌, ◌<◌, ◌≤◌, List, [], ◌∷◌, ◌++◌, length, get_or, take, set, sym, refl, ap, ◌∙◌, arith}
 use Rattle.std.proofs.lemmas.List.{take_more_set, length-take-le, get_or-take}
-use Rattle.aes.specs.KeyExpansion.{next_word, expand, key_word, key_words, round_key}
-use Rattle.aes.proofs.Each.{each_more}
+use Rattle.aes.specs.KeyExpansion.{next_word, expand, round_key}
 
 -- one word more at the end
 expand_more : (nk n : ℕ) (ws : List ℕ) → expand nk (suc n) ws ≡
@@ -30,15 +29,6 @@ unfolding expand
 expand_none nk ks =
     let e : nk - nk ≡ 0 = omega arith in
     sym (ap (λ (n : ℕ). expand nk n ks) e)
-
-pub words_turn : (key w : List ℕ) (i x : ℕ) → i < length w → x ≡ key_word key i → take i w ≡ key_words key i
-    → take (i + 1) (set w i x) ≡ key_words key (i + 1)
-words_turn key w i x h e v =
-    let a : 0 + i ≡ i = omega arith in
-    let b : i + 1 ≡ suc i = omega arith in
-    let t = take_more_set w i x h in
-    let m = each_more (key_word key) 0 i in
-    cc
 
 -- a round key lies in the words before its end
 pub key_of_front : (w : List ℕ) (n i : ℕ) → i * 4 + 3 < n → round_key (take n w) i ≡ round_key w i

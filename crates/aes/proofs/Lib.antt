@@ -5,5 +5,6 @@ pub mod Words
 pub mod Columns
 pub mod Rounds
 pub mod Each
+pub mod FromFn
 pub mod Expansion
 pub mod Lengths

@@ -1,9 +1,8 @@
 -- Words as four bytes: what their sums, rotations and bytes are.
-use Rattle.std.proofs.Common.{◌≡◌, ℕ, ◌+◌, ◌*◌, ◌/◌, ◌%◌, ◌^◌, ◌<◌, ◌≤◌, List, [], ◌∷◌, ◌++◌, length, get_or, take, drop, sym, ap, ◌∙◌, arith}
+use Rattle.std.proofs.Common.{◌≡◌, ℕ, ◌+◌, ◌*◌, ◌/◌, ◌%◌, ◌^◌, ◌<◌, List, [], ◌∷◌, ◌++◌, take, drop, sym, ap, ◌∙◌, arith}
 use lib.Bits.{bit_xor, bit_or, xor_block, or_shifted_r}
-use Rattle.std.proofs.lemmas.List.{drop_more, drop_all, drop-drop, take-append-drop}
-use Rattle.std.proofs.lemmas.Nat.{shr-shr, shr_below}
-use Rattle.aes.specs.Words.{byte0, byte1, byte2, byte3, word_of, word_bytes, bytes_of_words}
+use Rattle.std.proofs.lemmas.List.{drop-drop, take-append-drop}
+use Rattle.aes.specs.Words.{word_of, word_bytes}
 
 pub xor_word : (a b c d p q r s : ℕ) → b < 256 → c < 256 → d < 256 → q < 256 → r < 256 → s < 256
     → bit_xor (word_of a b c d) (word_of p q r s) ≡ word_of (bit_xor a p) (bit_xor b q) (bit_xor c r) (bit_xor d s)
@@ -19,17 +18,6 @@ xor_word a b c d p q r s hb hc hd hq hr hs =
     ≡ word_of (bit_xor a p) (bit_xor b q) (bit_xor c r) (bit_xor d s) = omega arith in
     ap (λ (x : ℕ). bit_xor x (word_of p q r s)) e ∙ ap (λ (x : ℕ). bit_xor (((a * 2 ^ 8 + b) * 2 ^ 8 + c) * 2 ^ 8 + d) x) f ∙ g ∙ k
 
-pub word_of_bytes : (w : ℕ) → w < 2 ^ 32 → w ≡ word_of (byte0 w) (byte1 w) (byte2 w) (byte3 w)
-word_of_bytes w h =
-    let e : w / 256 / 256 ≡ w / 65536 = shr-shr w 8 8 in
-    let f : w / 65536 / 256 ≡ w / 16777216 = shr-shr w 16 8 in
-    let g : w / 16777216 < 256 = shr_below w 8 24 h in
-    let p : w ≡ w / 256 * 256 + w % 256 = omega arith in
-    let q : w / 256 ≡ w / 65536 * 256 + w / 256 % 256 = omega arith in
-    let r : w / 65536 ≡ w / 16777216 * 256 + w / 65536 % 256 = omega arith in
-    let k : w / 16777216 % 256 ≡ w / 16777216 = omega arith in
-    omega arith
-
 pub bytes_of_word : (a b c d : ℕ) → a < 256 → b < 256 → c < 256 → d < 256 → word_bytes (word_of a b c d) ≡ a ∷ b ∷ c ∷ d ∷ []
 bytes_of_word a b c d ha hb hc hd =
     let e0 : word_of a b c d / 16777216 % 256 ≡ a = omega arith in
@@ -38,30 +26,10 @@ bytes_of_word a b c d ha hb hc hd =
     let e3 : word_of a b c d % 256 ≡ d = omega arith in
     cc
 
--- four bytes of a list, from place i on
-pub bytes_at : (b : List ℕ) (i : ℕ) → i + 4 ≤ length b → get_or b i 0 < 256 → get_or b (i + 1) 0 < 256 → get_or b (i + 2) 0 < 256 → get_or b (i + 3) 0 < 256
-    → word_bytes (word_of (get_or b i 0) (get_or b (i + 1) 0) (get_or b (i + 2) 0) (get_or b (i + 3) 0)) ≡ take 4 (drop i b)
-bytes_at b i l h0 h1 h2 h3 =
-    let d0 = drop_more b i 0 (omega arith) in
-    let d1 = drop_more b (i + 1) 0 (omega arith) in
-    let d2 = drop_more b (i + 2) 0 (omega arith) in
-    let d3 = drop_more b (i + 3) 0 (omega arith) in
-    let n1 : i + 1 + 1 ≡ i + 2 = omega arith in
-    let n2 : i + 2 + 1 ≡ i + 3 = omega arith in
-    let e = bytes_of_word (get_or b i 0) (get_or b (i + 1) 0) (get_or b (i + 2) 0) (get_or b (i + 3) 0) h0 h1 h2 h3 in
-    cc
-
 -- a word before the bytes that follow it
 pub before : (b : List ℕ) (i w : ℕ) (rest : List ℕ) → word_bytes w ≡ take 4 (drop i b) → rest ≡ drop (i + 4) b → word_bytes w ++ rest ≡ drop i b
 before b i w rest e f =
     ap (λ (t : List ℕ). t ++ rest) e ∙ ap (λ (t : List ℕ). take 4 (drop i b) ++ t) (f ∙ sym (drop-drop 4 i b)) ∙ take-append-drop 4 (drop i b)
-
--- sixteen bytes, read as four words
-pub words_of_bytes : (b : List ℕ) (u v w x : ℕ) → length b ≡ 16
-    → word_bytes u ≡ take 4 (drop 0 b) → word_bytes v ≡ take 4 (drop 4 b) → word_bytes w ≡ take 4 (drop 8 b) → word_bytes x ≡ take 4 (drop 12 b)
-    → bytes_of_words u v w x ≡ b
-words_of_bytes b u v w x l eu ev ew ex =
-    before b 0 u _ eu (before b 4 v _ ev (before b 8 w _ ew (before b 12 x [] ex (sym (drop_all 16 b (omega arith))))))
 
 -- rotate_right by 8, 16 and 24, as std's contract has it
 pub rot8 : (a b c d : ℕ) → a < 256 → b < 256 → c < 256 → d < 256

@@ -16,9 +16,10 @@ pub fn word_at(bytes: &[u8], i: usize) -> u32
     requires { i + 4 ≤ length bytes.now }
     ensures { word_bytes result ≡ take 4 (drop i bytes.now) }
 {
-    u32::from_be_bytes([bytes[i], bytes[i + 1], bytes[i + 2], bytes[i + 3]])
+    u32::from_be_bytes(bytes[i..i + 4].try_into().unwrap())
 }
 
+// Functions with names and no `From`, as std has for a word: `u32::from_be_bytes` and `to_be_bytes`.
 impl Block {
     /// The block of these bytes.
     pub fn from_bytes(bytes: &[u8; 16]) -> Block
@@ -36,12 +37,7 @@ impl Block {
     pub fn to_bytes(self) -> [u8; 16]
         ensures { result ≡ bytes_of self }
     {
-        let [a0, a1, a2, a3] = self.a.to_be_bytes();
-        let [b0, b1, b2, b3] = self.b.to_be_bytes();
-        let [c0, c1, c2, c3] = self.c.to_be_bytes();
-        let [d0, d1, d2, d3] = self.d.to_be_bytes();
-        [
-            a0, a1, a2, a3, b0, b1, b2, b3, c0, c1, c2, c3, d0, d1, d2, d3,
-        ]
+        let words = [self.a, self.b, self.c, self.d].map(u32::to_be_bytes);
+        words.as_flattened().try_into().unwrap()
     }
 }

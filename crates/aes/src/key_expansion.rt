@@ -7,16 +7,12 @@ ghost use Rattle.aes.specs.Schedules.{key_bytes, key_at, scheduled};
 use crate::block::Block;
 use crate::schedule::Schedule;
 use crate::tables::{round_constant, sub_byte};
+use std::array;
 
 fn sub_word(word: u32) -> u32
     ensures { result ≡ sub_word word }
 {
-    u32::from_be_bytes([
-        sub_byte((word / 16777216 % 256) as u8),
-        sub_byte((word / 65536 % 256) as u8),
-        sub_byte((word / 256 % 256) as u8),
-        sub_byte((word % 256) as u8),
-    ])
+    u32::from_be_bytes(word.to_be_bytes().map(sub_byte))
 }
 
 fn rot_word(word: u32) -> u32
@@ -40,22 +36,11 @@ fn next_word(nk: usize, i: usize, before: u32, back: u32) -> u32
     }
 }
 
-fn byte_or_zero(bytes: &[u8], i: usize) -> u8
-    ensures { result ≡ slice_index bytes.now i }
-{
-    if i < bytes.len() { bytes[i] } else { 0 }
-}
-
 fn key_word(key: &[u8], i: usize) -> u32
     requires { i < 8 }
     ensures { result ≡ key_word key.now i }
 {
-    u32::from_be_bytes([
-        byte_or_zero(key, i * 4),
-        byte_or_zero(key, i * 4 + 1),
-        byte_or_zero(key, i * 4 + 2),
-        byte_or_zero(key, i * 4 + 3),
-    ])
+    u32::from_be_bytes(array::from_fn(|j| key.get(i * 4 + j).copied().unwrap_or(0)))
 }
 
 /// The words of a key, and zeros after them.
@@ -63,11 +48,7 @@ fn key_words(key: &[u8], nk: usize) -> [u32; 60]
     requires { nk ≤ 8 }
     ensures { take nk result ≡ key_words key.now nk }
 {
-    let mut words = [0u32; 60];
-    for i in 0..nk {
-        words[i] = key_word(key, i);
-    }
-    words
+    array::from_fn(|i| if i < nk { key_word(key, i) } else { 0 })
 }
 
 /// The expansion of a key of nk words: the first 4 (nk + 7) words of the result.
@@ -77,6 +58,7 @@ fn expand_key(key: &[u8], nk: usize) -> [u32; 60]
 {
     let mut words = key_words(key, nk);
     let end = 4 * (nk + 7);
+    // By index, since each word is made of two words that stand before it in the same array.
     for i in nk..end {
         words[i] = next_word(nk, i, words[i - 1], words[i - nk]);
     }
@@ -86,21 +68,12 @@ fn expand_key(key: &[u8], nk: usize) -> [u32; 60]
 fn round_keys(words: &[u32; 60]) -> [Block; 15]
     ensures { (i : ℕ) → i < 15 → bytes_of (slice_index_or result i zero_block) ≡ round_key words.now i }
 {
-    let mut keys = [Block {
-        a: 0,
-        b: 0,
-        c: 0,
-        d: 0,
-    }; 15];
-    for i in 0..15usize {
-        keys[i] = Block {
-            a: words[i * 4],
-            b: words[i * 4 + 1],
-            c: words[i * 4 + 2],
-            d: words[i * 4 + 3],
-        };
-    }
-    keys
+    array::from_fn(|i| Block {
+        a: words[i * 4],
+        b: words[i * 4 + 1],
+        c: words[i * 4 + 2],
+        d: words[i * 4 + 3],
+    })
 }
 
 /// Nk, the length of a key in words, from its length in bytes.
@@ -109,13 +82,11 @@ fn key_length(bytes: usize) -> usize
     ensures least { 4 ≤ result }
     ensures most { result ≤ 8 }
 {
-    if bytes < 24 {
-        return 4;
+    match bytes {
+        0..24 => 4,
+        24..32 => 6,
+        _ => 8,
     }
-    if bytes < 32 {
-        return 6;
-    }
-    8
 }
 
 impl Schedule {
@@ -123,22 +94,22 @@ impl Schedule {
     /// other length, a key under 24 bytes counts as 16, one under 32 as 24, and a longer one as 32; missing bytes
     /// count as 0.
     pub fn new(key: &[u8]) -> Schedule
-        ensures words { result.nk ≡ key_length (length key.now) }
-        ensures expands { (i : ℕ) → i < result.nk + 7 → key_bytes result i ≡ round_key (expansion key.now) i }
+        ensures rounds { result.rounds ≡ key_length (length key.now) + 6 }
+        ensures expands { (i : ℕ) → i ≤ result.rounds → key_bytes result i ≡ round_key (expansion key.now) i }
         ensures encrypts { (x : List ℕ) → scheduled result x ≡ aes key.now x }
     {
         let nk = key_length(key.len());
         let keys = round_keys(&expand_key(key, nk));
-        Schedule { keys, nk }
+        Schedule {
+            keys,
+            rounds: nk + 6,
+        }
     }
 
-    /// A round key, counted from 0; none past the last of the nk + 7.
+    /// A round key, counted from 0; none past the last.
     pub fn round_key(&self, number: usize) -> Option<Block>
         ensures { result ≡ key_at self.now number }
     {
-        if number < self.nk + 7 {
-            return Some(self.keys[number]);
-        }
-        None
+        self.keys[..=self.rounds].get(number).copied()
     }
 }

@@ -5,10 +5,10 @@ use crate::block::Block;
 /// The round keys of a key.
 #[derive(Drop)]
 pub struct Schedule {
-    /// The round keys, of which the first nk + 7 are used.
+    /// The round keys, numbers 0 to `rounds`. With no heap there is always room for the 15 of the longest keys.
     pub(crate) keys: [Block; 15],
-    /// The length of the key in words, Nk in FIPS 197: 4, 6 or 8.
-    pub(crate) nk: usize,
-    ghost least: { 4 ≤ nk },
-    ghost most: { nk ≤ 8 },
+    /// The number of rounds, Nr in FIPS 197: 10, 12 or 14.
+    pub(crate) rounds: usize,
+    ghost least: { 10 ≤ rounds },
+    ghost most: { rounds ≤ 14 },
 }

@@ -1,6 +1,6 @@
-use Rattle.std.proofs.Common.{arith}
+use Rattle.std.proofs.Common.{rules}
 use Rattle.aes.proofs.Rounds.{xor_words}
 use Rattle.aes.proofs.cipher.add_word.Goals as goal
 
 pub returns : goal.returns
-returns c = xor_words c.args.word c.args.key (omega arith) (omega arith)
+returns c = search (rules, xor_words)

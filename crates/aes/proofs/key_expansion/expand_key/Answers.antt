@@ -1,17 +1,11 @@
-use Rattle.std.proofs.Common.{◌/◌, ◌<◌, ◌∙◌, arith}
+use Rattle.std.proofs.Common.{◌∙◌, arith}
 use Rattle.std.proofs.lemmas.List.{length-set}
-use Rattle.std.proofs.lemmas.Nat.{div_below}
 use Rattle.aes.specs.KeyExpansion.{key_words}
 use Rattle.aes.proofs.Expansion.{expand_turn, expand_none}
 use Rattle.aes.proofs.key_expansion.expand_key.Goals as goal
 
 pub loop-i-init : goal.loop-i-init
 loop-i-init c = (omega arith, c.key_words-words.ensures ∙ expand_none c.args.nk (key_words c.args.key.now c.args.nk))
-
-pub next_word-requires : goal.next_word-requires
-next_word-requires c =
-    let d : c.loop-i.i / c.args.nk < 11 = div_below c.loop-i.i c.args.nk 11 (omega arith) (omega arith) in
-    (omega arith, (omega arith, omega arith))
 
 pub loop-i-preserved : goal.loop-i-preserved
 loop-i-preserved c = (

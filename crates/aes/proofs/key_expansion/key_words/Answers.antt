@@ -1,15 +1,13 @@
-use Rattle.std.proofs.Common.{refl, ◌∙◌, arith}
-use Rattle.std.proofs.lemmas.List.{length-set}
-use Rattle.aes.specs.KeyExpansion.{each}
-use Rattle.aes.proofs.Expansion.{words_turn}
+use Rattle.std.proofs.Common.{◌≡◌, ◌<◌, length, arith, rules}
+use Rattle.aes.specs.KeyExpansion.{key_word}
+use Rattle.aes.proofs.Each.{front}
+use Rattle.aes.proofs.FromFn.{element}
 use Rattle.aes.proofs.key_expansion.key_words.Goals as goal
 
-pub loop-i-init : goal.loop-i-init
-unfolding each
-loop-i-init c = (refl, refl)
-
-pub loop-i-preserved : goal.loop-i-preserved
-loop-i-preserved c = (
-  length-set c.loop-i.words c.loop-i.i c.key_word.result ∙ c.loop-i.invariant.0,
-  words_turn c.args.key.now c.loop-i.words c.loop-i.i c.key_word.result (omega arith) c.key_word.ensures c.loop-i.invariant.1,
-)
+pub returns : goal.returns
+returns c =
+    let key = c.args.key.now in
+    let nk = c.args.nk in
+    let long : length c.from_fn.result ≡ 60 = c.from_fn.ensures.items.long in
+    front (key_word key) c.from_fn.result 0 nk (omega arith)
+    (λ k h. element (λ i y. i < nk → y ≡ key_word key i) 0 c.from_fn.ensures.items (λ i y f' e. search rules) k (omega arith) h)

@@ -1,4 +1,4 @@
-use Rattle.std.proofs.Common.{◌≡◌, ℕ, ◌+◌, ◌-◌, ◌*◌, ◌<◌, List, length, get_or, take, sym, ap, ◌∙◌, arith}
+use Rattle.std.proofs.Common.{◌≡◌, ℕ, ◌+◌, ◌-◌, ◌*◌, ◌≤◌, List, length, get_or, take, sym, ap, ◌∙◌, arith}
 use Rattle.aes.specs.KeyExpansion.{expand, key_length, key_words, expansion, round_key}
 use Rattle.aes.specs.Aes.{aes}
 use Rattle.aes.specs.Blocks.{bytes_of, zero_block}
@@ -14,13 +14,14 @@ front : (key w : List ℕ) (nk : ℕ) → nk ≡ key_length (length key)
 unfolding expansion
 front key w nk n e = e ∙ ap (λ (m : ℕ). expand m (4 * (m + 7) - m) (key_words key m)) n
 
-encrypts : (s : Schedule) (key x : List ℕ) → s.nk ≡ key_length (length key)
-    → ((i : ℕ) → i < s.nk + 7 → key_bytes s i ≡ round_key (expansion key) i) → scheduled s x ≡ aes key x
+encrypts : (s : Schedule) (key x : List ℕ) → s.rounds ≡ key_length (length key) + 6
+    → ((i : ℕ) → i ≤ s.rounds → key_bytes s i ≡ round_key (expansion key) i) → scheduled s x ≡ aes key x
 unfolding scheduled aes
 encrypts s key x n h =
+    let middle : s.rounds - 1 ≡ key_length (length key) + 5 = omega arith in
     let a = h 0 (omega arith) in
-    let b = h (s.nk + 6) (omega arith) in
-    let m = each_same (key_bytes s) (round_key (expansion key)) 1 (s.nk + 5) (λ k l. h k (omega arith)) in
+    let b = h s.rounds (omega arith) in
+    let m = each_same (key_bytes s) (round_key (expansion key)) 1 (s.rounds - 1) (λ k l. h k (omega arith)) in
     cc
 
 pub returns : goal.returns
@@ -30,6 +31,7 @@ returns c =
     let w = c.expand_key.result in
     let n = c.key_length-nk.ensures.value in
     let e = front key w nk n c.expand_key.ensures in
-    let expands : (i : ℕ) → i < nk + 7 → bytes_of (get_or c.round_keys-keys.result i zero_block) ≡ round_key (expansion key) i =
+    let rounds : nk + 6 ≡ key_length (length key) + 6 = ap (λ (k : ℕ). k + 6) n in
+    let expands : (i : ℕ) → i ≤ nk + 6 → bytes_of (get_or c.round_keys-keys.result i zero_block) ≡ round_key (expansion key) i =
     λ i h. c.round_keys-keys.ensures i (omega arith) ∙ sym (key_of_front w (4 * (nk + 7)) i (omega arith)) ∙ ap (λ (t : List ℕ). round_key t i) e in
-    record { words = n; expands = expands; encrypts = λ x. encrypts _ key x n expands }
+    record { rounds = rounds; expands = expands; encrypts = λ x. encrypts _ key x rounds expands }
