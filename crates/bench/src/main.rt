@@ -2,7 +2,7 @@
 //! always the same; with the argument `time` the microseconds that each took, which `tools/bench/run` sets beside other programs'.
 #![tactic(auto)]
 
-use aead::aead::Aead;
+use aead::aead::KeyedCipher;
 use aead::counter::CounterNonces;
 use aead::key::{KeySize, SecureKey};
 use aead::source::NonceSource;
@@ -23,14 +23,6 @@ const KEY: [u8; 32] = [
 
 const AAD: [u8; 20] = [7; 20];
 
-/// What is timed.
-#[derive(Clone, Copy)]
-enum Kernel {
-    Ctr,
-    Ghash,
-    Gcm,
-}
-
 /// Text number `seed`.
 fn fill(text: &mut [u8], seed: u8) {
     let mut k = seed;
@@ -49,39 +41,22 @@ fn last(bytes: &[u8]) -> u64 {
     n
 }
 
-fn seal(nonces: &mut CounterNonces, text: &mut [u8]) -> anyhow::Result<u64> {
-    let mut memory = KEY;
-    let key = SecureKey::new(&mut memory, KeySize::Bits128);
-    let nonce = nonces.draw()?;
-    let tag = AesGcm.seal(&key, nonce, &AAD, text);
-    Ok(last(&tag))
-}
-
-fn run(kernel: Kernel, nonces: &mut CounterNonces, text: &mut [u8]) -> anyhow::Result<u64> {
-    match kernel {
-        Kernel::Ctr => {
-            let schedule = Schedule::new(&KEY[0..16]);
-            gctr(&schedule, Iv { a: 0, b: 0, c: 0 }, 2, text);
-            Ok(last(text))
-        }
-        Kernel::Ghash => {
-            let sum = ghash(0x66e94bd4ef8a2c3b884cfa59ca342b2e, 0, text);
-            Ok(last(&sum.to_be_bytes()))
-        }
-        Kernel::Gcm => seal(nonces, text),
-    }
-}
-
 /// Runs a kernel on the sixteen texts; prints what came out or how long it took.
-fn measure(rt: &HostRuntime, name: &str, kernel: Kernel, timed: bool) -> anyhow::Result<()> {
-    let mut nonces = CounterNonces::new([0; 4], 0);
+fn measure<F: FnMut(&mut [u8]) -> anyhow::Result<u64>>(
+    rt: &HostRuntime,
+    name: &str,
+    timed: bool,
+    mut kernel: F,
+) -> anyhow::Result<()>
+    requires { F.IsAlwaysCallable kernel }
+{
     let mut text = vec![in rt.alloc(); 0u8; LENGTH]?;
     let mut sum = 0u64;
     let mut micros = 0u128;
     for seed in 0..16u8 {
-        fill(text.as_mut_slice(), seed);
+        fill(&mut text, seed);
         let start = Instant::now(rt)?;
-        let out = run(kernel, &mut nonces, text.as_mut_slice())?;
+        let out = kernel(&mut text)?;
         micros = micros.saturating_add(start.elapsed(rt)?.as_micros());
         sum = sum.wrapping_mul(31).wrapping_add(out);
     }
@@ -95,7 +70,24 @@ fn measure(rt: &HostRuntime, name: &str, kernel: Kernel, timed: bool) -> anyhow:
 
 fn main(rt: HostRuntime) -> anyhow::Result<()> {
     let timed = env::args(&rt)?.count() > 1;
-    measure(&rt, "ctr", Kernel::Ctr, timed)?;
-    measure(&rt, "ghash", Kernel::Ghash, timed)?;
-    measure(&rt, "gcm", Kernel::Gcm, timed)
+    measure(&rt, "ctr", timed, |text| {
+        let schedule = Schedule::new(&KEY[0..16]);
+        gctr(&schedule, Iv { a: 0, b: 0, c: 0 }, 2, text);
+        Ok(last(text))
+    })?;
+    measure(&rt, "ghash", timed, |text| {
+        let sum = ghash(0x66e94bd4ef8a2c3b884cfa59ca342b2e, 0, text);
+        Ok(last(&sum.to_be_bytes()))
+    })?;
+    let mut nonces = CounterNonces::new([0; 4], 0);
+    measure(&rt, "gcm", timed, |text| {
+        let mut memory = KEY;
+        let key = SecureKey::new(&mut memory, KeySize::Bits128);
+        let keyed = KeyedCipher {
+            cipher: &AesGcm,
+            key: &key,
+        };
+        let tag = keyed.seal(nonces.draw()?, &AAD, text);
+        Ok(last(&tag))
+    })
 }
