@@ -51,6 +51,7 @@ impl Reported for CipherError {
     }
 }
 
+// Written out, since a derive promises neither the text nor which variant an error becomes.
 impl fmt::Display for CipherError {
     ghost output = { λ e. Some (report_text (cipher_report e)) };
 

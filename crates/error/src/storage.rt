@@ -36,6 +36,7 @@ impl Reported for StorageError {
     }
 }
 
+// Written out, since a derive promises neither the text nor which variant an error becomes.
 impl fmt::Display for StorageError {
     ghost output = { λ e. Some (report_text (storage_report e)) };
 

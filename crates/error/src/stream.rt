@@ -83,6 +83,7 @@ impl Reported for StreamError {
     }
 }
 
+// Written out, since a derive promises neither the text nor which variant an error becomes.
 impl fmt::Display for StreamError {
     ghost output = { λ e. Some (report_text (stream_report e)) };
 

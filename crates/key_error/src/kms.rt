@@ -55,6 +55,7 @@ impl Reported for KmsError {
     }
 }
 
+// Written out, since a derive promises neither the text nor which variant an error becomes.
 impl fmt::Display for KmsError {
     ghost output = { λ e. Some (report_text (kms_report e)) };
 

@@ -79,6 +79,7 @@ impl Reported for ManagerError {
     }
 }
 
+// Written out, since a derive promises neither the text nor which variant an error becomes.
 impl fmt::Display for ManagerError {
     ghost output = { λ e. Some (report_text (manager_report e)) };
 

@@ -16,7 +16,7 @@ use std::{fmt, io};
 /// The plaintext bytes of a full block, in each file of the list.
 const BLOCK_SIZE: u32 = 1_048_576;
 
-/// What is answered for a file length: the plaintext bytes, or the code of the refusal.
+/// What is answered for a file length: the plaintext bytes, or the code of the refusal. A type of its own, and no `Result`, since it is printed.
 #[derive(Clone, Copy, PartialEq, Eq)]
 pub enum Answer {
     Plaintext(u64),
@@ -57,6 +57,7 @@ pub enum ListError {
     OutOfMemory,
 }
 
+// Written out, since a derive promises neither the text nor which variant an error becomes.
 impl fmt::Display for ListError {
     fn fmt<W: fmt::Write>(&self, f: &mut fmt::Formatter<W>) -> fmt::Result {
         match self {

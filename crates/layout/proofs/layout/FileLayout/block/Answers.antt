@@ -12,9 +12,6 @@ starts c =
     let e : c.args.number * c.ciphertext.result ≡ c.args.number * (c.args.self.now.size.bytes + 28) = ap (λ x. c.args.number * x) c.ciphertext.ensures in
     omega arith
 
-pub overflow_mul-start : goal.overflow_mul-start
-overflow_mul-start c = let s = starts c in omega arith
-
 pub overflow_add-start : goal.overflow_add-start
 overflow_add-start c = let s = starts c in omega arith
 

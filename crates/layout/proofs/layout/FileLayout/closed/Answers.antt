@@ -2,9 +2,6 @@ use Rattle.std.proofs.Common.{rules}
 use Rattle.layout.proofs.Laws.{closed_law}
 use Rattle.layout.proofs.layout.FileLayout.closed.Goals as goal
 
-pub returns-in_err-size : goal.returns-in_err-size
-returns-in_err-size c = record { value = search rules; law = closed_law _ _ }
-
 pub returns-then-full-gt-MAX_BLOCKS : goal.returns-then-full-gt-MAX_BLOCKS
 returns-then-full-gt-MAX_BLOCKS c = record { value = search rules; law = closed_law _ _ }
 
