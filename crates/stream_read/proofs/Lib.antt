@@ -1,5 +1,3 @@
 mod Fetches
 mod Places
 mod Spots
-mod Texts
-mod Whole

@@ -1,22 +1,20 @@
--- What the fetching and opening of one block answers.
-use Rattle.std.specs.Prelude.{◌≡◌, ℕ, ◌+◌, ◌≤◌, ◌⊎◌, List, length, Ok, Err, Result}
-use Rattle.error.specs.declared.storage.StorageError.TheVariants.{SourceRefused}
-use Rattle.error.specs.declared.cipher.CipherError.TheVariants.{NotAuthentic}
+-- What the blocks of a file open to, fetched from a source and opened under a keyed cipher.
+use Rattle.std.specs.Prelude.{◌≡◌, ℕ, List, length, Ok, Err, Result}
+use Rattle.std.specs.Borrow.{Bor}
 use Rattle.error.specs.declared.stream.StreamError.{StreamError}
-use Rattle.error.specs.declared.stream.StreamError.TheVariants.{Storage, Cipher}
-use Rattle.storage.specs.Answers.{range}
-use Rattle.aead.specs.Seals.{Sealed}
-use Rattle.sealed_text.specs.Opening.{SealsTo}
+use Rattle.aead.specs.Seals.{Sealed, sealing}
+use Rattle.stream_read.specs.declared.block.Blocks.{Blocks}
+use Rattle.stream_read.specs.Blocks.{text_in}
+use Rattle.stream_read.specs.Readers.{size_of, plain_of, OpensOf, FailsOf}
 
--- the m bytes at a place open to t; or they fail as block i
-abbrev pub OpensAt : (List ℕ → List ℕ → List ℕ → Sealed) → List ℕ → List ℕ → ℕ → ℕ → List ℕ → Type 0
-OpensAt seal aad bs at m t = (at + m ≤ length bs) × SealsTo seal aad t (range at m bs)
+-- what a block opens to, and how it fails
+abbrev pub OpensIn : {R A : Type 0} → (A → List ℕ → List ℕ → List ℕ → List ℕ → Sealed) → (R → List ℕ) → Blocks R A → ℕ → List ℕ → Type 0
+OpensIn sealed bytes x = OpensOf (sealing sealed x.keyed.now) x.reader.now (bytes x.source.now)
 
-abbrev pub FailsAt : (List ℕ → List ℕ → List ℕ → Sealed) → List ℕ → List ℕ → ℕ → ℕ → ℕ → StreamError → Type 0
-FailsAt seal aad bs at m i e =
-    ((at + m ≤ length bs → ⊥) × (e ≡ Storage (record { error = SourceRefused; block = i })))
-    ⊎ ((at + m ≤ length bs) × ((t : List ℕ) → SealsTo seal aad t (range at m bs) → ⊥) × (e ≡ Cipher (record { error = NotAuthentic; block = i })))
+abbrev pub FailsIn : {R A : Type 0} → (A → List ℕ → List ℕ → List ℕ → List ℕ → Sealed) → (R → List ℕ) → Blocks R A → ℕ → StreamError → Type 0
+FailsIn sealed bytes x = FailsOf (sealing sealed x.keyed.now) x.reader.now (bytes x.source.now)
 
-abbrev pub Fetched : (List ℕ → List ℕ → List ℕ → Sealed) → List ℕ → List ℕ → ℕ → ℕ → ℕ → Result (Unit {0}) StreamError → List ℕ → Type 0
-Fetched seal aad bs at m i (Ok _) t = OpensAt seal aad bs at m t
-Fetched seal aad bs at m i (Err e) t = FailsAt seal aad bs at m i e
+-- the plaintext of block i, or why it does not open
+abbrev pub Fetched : {R A : Type 0} → (A → List ℕ → List ℕ → List ℕ → List ℕ → Sealed) → (R → List ℕ) → Blocks R A → ℕ → Result (Bor (List ℕ)) StreamError → Type 0
+Fetched sealed bytes x i (Ok t) = (length t.now ≡ text_in (size_of x.reader.now) (plain_of x.reader.now) i) × OpensIn sealed bytes x i t.now
+Fetched sealed bytes x i (Err e) = FailsIn sealed bytes x i e

@@ -1,35 +1,44 @@
-ghost use Rattle.std.specs.Prelude.{◌+◌, ◌≤◌, length, take, drop};
-ghost use Rattle.aead.specs.Seals.{key_of};
+ghost use Rattle.std.specs.Prelude.{◌+◌, ◌<◌, ◌≤◌, length};
+ghost use Rattle.layout.specs.Format.{block_count_of};
 ghost use Rattle.stream_read.specs.Fetches.{Fetched};
+ghost use Rattle.stream_read.specs.Readers.{size_of};
 
-use aead::aead::Aead;
-use aead::key::SecureKey;
+use crate::reader::AesGcmFileRead;
+use aead::aead::{Aead, KeyedCipher};
 use error::stream::{StreamError, at_block};
+use layout::places::block_aad;
+use sealed_text::frame::OVERHEAD;
 use storage::source::FileRead;
 
-// Fetches block `i`, which starts at `at` and holds `n` bytes of plaintext, and opens it in place: the plaintext then stands
-// behind the place of the nonce.
-pub(crate) fn fetch_block<R: FileRead, A: Aead>(
-    block: &mut [u8],
-    n: usize,
-    at: u64,
-    i: u32,
-    aad: &[u8],
-    key: &SecureKey,
-    source: &R,
-    cipher: &A,
-) -> Result<(), StreamError>
-    requires { n + 28 ≤ length block.old }
-    ensures { Fetched (A.sealed cipher.now (key_of key.now)) aad.now (R.bytes source.now) at (n + 28) i result (take n (drop 12 block.new)) }
-{
-    at_block(source.read(at, &mut block[0..n + 28]), i)?;
-    let mut nonce = [0u8; 12];
-    let mut tag = [0u8; 16];
-    nonce.copy_from_slice(&block[0..12]);
-    tag.copy_from_slice(&block[12 + n..28 + n]);
-    at_block(
-        cipher.open(key, &nonce, aad, &mut block[12..12 + n], &tag),
-        i,
-    )?;
-    Ok(())
+// The blocks of a file, with what they are fetched from and opened with.
+#[derive(Drop)]
+pub(crate) struct Blocks<'a, R, A> {
+    pub(crate) reader: &'a AesGcmFileRead,
+    pub(crate) keyed: &'a KeyedCipher<'a, A>,
+    pub(crate) source: &'a R,
+}
+
+impl<R: FileRead, A: Aead> Blocks<'_, R, A> {
+    // Fetches block `number` into the front of `block` and opens it there: its plaintext.
+    pub(crate) fn fetch<'b>(
+        &self,
+        number: u64,
+        block: &'b mut [u8],
+    ) -> Result<&'b [u8], StreamError>
+        requires there { number < block_count_of self.now.reader.now.layout.shape }
+        requires room { size_of self.now.reader.now + 28 ≤ length block.old }
+        ensures { Fetched A.sealed R.bytes self.now number result }
+    {
+        // The file has the block, and a block holds a nonce and a tag, so each `unwrap` finds its value.
+        let span = self.reader.layout.block(number).unwrap();
+        let n = span.plaintext as usize;
+        let i = number as u32;
+        let aad = block_aad(&self.reader.prefix, i)?;
+        let sealed = &mut block[..n + OVERHEAD];
+        at_block(self.source.read(span.start, sealed), i)?;
+        let (nonce, rest) = sealed.split_first_chunk_mut::<12>().unwrap();
+        let (text, tag) = rest.split_last_chunk_mut::<16>().unwrap();
+        at_block(self.keyed.open(nonce, &aad, text, tag), i)?;
+        Ok(text)
+    }
 }

@@ -1,7 +1,7 @@
 //! The reader of encrypted files: it opens ranges of the plaintext, one block at a time, and single blocks.
 #![tactic(auto)]
 
-pub mod block;
+mod block;
 pub mod making;
 pub mod range;
 pub mod reader;

@@ -3,7 +3,7 @@ ghost use Rattle.layout.specs.Format.{block_count_of};
 
 use layout::layout::FileLayout;
 
-/// Reads ranges of an encrypted file's plaintext. It holds the file's layout and AAD prefix; source, cipher, key and memory are
+/// Reads ranges of an encrypted file's plaintext. It holds the file's layout and AAD prefix; memory, keyed cipher and source are
 /// handed to each call.
 #[derive(Drop)]
 pub struct AesGcmFileRead {

@@ -1,11 +1,10 @@
 ghost use Rattle.layout.specs.Format.{block_count_of};
-ghost use Rattle.aead.specs.Seals.{key_of};
+ghost use Rattle.aead.specs.Seals.{sealing};
 ghost use Rattle.stream_read.specs.Readers.{size_of, plain_of};
 ghost use Rattle.stream_read.specs.Singles.{BlockOpened};
 
 use crate::reader::AesGcmFileRead;
-use aead::aead::Aead;
-use aead::key::SecureKey;
+use aead::aead::{Aead, KeyedCipher};
 use error::stream::{StreamError, at_block};
 use layout::places::block_aad;
 use sealed_text::frame::OVERHEAD;
@@ -22,14 +21,11 @@ impl AesGcmFileRead {
         number: u64,
         sealed: &[u8],
         out: &mut [u8],
-        key: &SecureKey,
-        cipher: &A,
+        keyed: &KeyedCipher<'_, A>,
     ) -> Result<usize, StreamError>
-        ensures { BlockOpened (A.sealed cipher.now (key_of key.now)) self.now.prefix.items (size_of self.now) (plain_of self.now) (block_count_of self.now.layout.shape) number sealed.now out.old result out.new }
+        ensures { BlockOpened (sealing A.sealed keyed.now) self.now.prefix.items (size_of self.now) (plain_of self.now) (block_count_of self.now.layout.shape) number sealed.now out.old result out.new }
     {
-        let Some(span) = self.layout.block(number) else {
-            return Err(StreamError::RangePastEnd);
-        };
+        let span = self.layout.block(number).ok_or(StreamError::RangePastEnd)?;
         let n = span.plaintext as usize;
         if sealed.len() != n + OVERHEAD {
             return Err(StreamError::CiphertextTooShort);
@@ -38,9 +34,8 @@ impl AesGcmFileRead {
             return Err(StreamError::MemoryTooSmall);
         }
         let i = number as u32;
-        let mut aad = [0u8; 68];
-        let m = block_aad(&self.prefix, i, &mut aad)?;
-        let length = at_block(open_text(cipher, key, &aad[0..m], sealed, out), i)?;
+        let aad = block_aad(&self.prefix, i)?;
+        let length = at_block(open_text(keyed, &aad, sealed, out), i)?;
         Ok(length)
     }
 }
