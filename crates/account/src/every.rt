@@ -1,8 +1,9 @@
 use crate::file::{reader, write};
+use aead::aead::KeyedCipher;
 use aead::counter::CounterNonces;
 use aead::key::{KeySize, SecureKey};
 use gcm::aes_gcm::AesGcm;
-use storage::source::{FileRead, MemorySource};
+use storage::source::MemorySource;
 use stream_read::reader::AesGcmFileRead;
 use stream_write::call::FileCall;
 
@@ -25,14 +26,14 @@ fn ranges(
     text: &[u8],
     out: &mut [u8],
     block: &mut [u8],
-    key: &SecureKey,
+    keyed: &KeyedCipher<'_, AesGcm>,
     tally: &mut Tally,
 ) {
     let source = MemorySource::new(bytes);
     let n = text.len().min(out.len());
-    for start in 0..n + 1 {
-        for end in start..n + 1 {
-            let read = reader.read(start as u64, end as u64, out, block, key, &source, &AesGcm);
+    for start in 0..=n {
+        for end in start..=n {
+            let read = reader.read(start as u64..end as u64, out, block, keyed, &source);
             tally.ranges = tally.ranges.saturating_add(1);
             if read.is_err() || out[0..end - start] != text[start..end] {
                 tally.differ = tally.differ.saturating_add(1);
@@ -46,7 +47,7 @@ fn lengths(
     rt: &HostRuntime,
     block_size: u32,
     most: usize,
-    key: &SecureKey,
+    keyed: &KeyedCipher<'_, AesGcm>,
 ) -> anyhow::Result<Tally> {
     let mut tally = Tally {
         ranges: 0,
@@ -59,25 +60,19 @@ fn lengths(
     }
     let mut out = vec![in rt.alloc(); 0u8; MOST]?;
     let mut block = vec![in rt.alloc(); 0u8; MOST + 28]?;
-    for n in 0..most.min(MOST) + 1 {
-        let part = &text[0..n];
-        let half = n / 2;
+    for n in 0..=most.min(MOST) {
+        let part = &text[..n];
+        let (front, back) = part.split_at(n / 2);
         let calls = [
-            FileCall::Write(&part[0..half]),
-            FileCall::Write(&part[half..n]),
+            FileCall::Write(front),
+            FileCall::Write(back),
             FileCall::Close,
         ];
-        let written = write(rt.alloc(), block_size, ROOM, &calls, key, &mut nonces)?;
+        let written = write(rt.alloc(), block_size, ROOM, &calls, keyed, &mut nonces)?;
         let bytes = written.file.as_slice();
         let reader = reader(rt.alloc(), block_size, bytes.len())?;
         ranges(
-            &reader,
-            bytes,
-            part,
-            out.as_mut_slice(),
-            block.as_mut_slice(),
-            key,
-            &mut tally,
+            &reader, bytes, part, &mut out, &mut block, keyed, &mut tally,
         );
     }
     Ok(tally)
@@ -88,8 +83,12 @@ pub fn every(rt: &HostRuntime) -> anyhow::Result<()> {
     let mut memory = [5u8; 32];
     let size = KeySize::of(16, memory.len())?;
     let key = SecureKey::new(&mut memory, size);
+    let keyed = KeyedCipher {
+        cipher: &AesGcm,
+        key: &key,
+    };
     for (block_size, most) in [(1u32, 40usize), (7, 80), (64, 200), (100, 200)] {
-        let tally = lengths(rt, block_size, most, &key)?;
+        let tally = lengths(rt, block_size, most, &keyed)?;
         let ranges = tally.ranges;
         let differ = tally.differ;
         println!(rt;

@@ -1,5 +1,5 @@
+use aead::aead::KeyedCipher;
 use aead::counter::CounterNonces;
-use aead::key::SecureKey;
 use error::stream::StreamError;
 use gcm::aes_gcm::AesGcm;
 use std::alloc::Global;
@@ -7,7 +7,6 @@ use storage::memory::MemoryFile;
 use stream::run::run;
 use stream_read::reader::AesGcmFileRead;
 use stream_write::call::FileCall;
-use stream_write::ends::NotMade;
 use stream_write::writer::AesGcmFileWrite;
 
 /// The AAD prefix of the account's files.
@@ -24,17 +23,7 @@ pub struct Written {
 fn writer(heap: Global, block_size: u32) -> anyhow::Result<AesGcmFileWrite> {
     let prefix = Vec::from_slice(heap, PREFIX)?;
     let block = vec![in heap; 0u8; block_size as usize + 28]?;
-    match AesGcmFileWrite::new(block_size, prefix, block) {
-        Ok(writer) => Ok(writer),
-        Err(not_made) => {
-            let NotMade {
-                error,
-                prefix: _,
-                block: _,
-            } = not_made;
-            Err(error.into())
-        }
-    }
+    Ok(AesGcmFileWrite::new(block_size, prefix, block)?)
 }
 
 /// Makes the calls on a new file in memory with that room.
@@ -43,12 +32,12 @@ pub fn write(
     block_size: u32,
     room: usize,
     calls: &[FileCall<'_>],
-    key: &SecureKey,
+    keyed: &KeyedCipher<'_, AesGcm>,
     nonces: &mut CounterNonces,
 ) -> anyhow::Result<Written> {
     let mut file = MemoryFile::new(heap, room)?;
     let mut writer = writer(heap, block_size)?;
-    let replies = run(heap, &mut writer, calls, key, &mut file, &AesGcm, nonces);
+    let replies = run(heap, &mut writer, calls, keyed, &mut file, nonces);
     let _block = writer.end();
     let replies = replies?;
     Ok(Written { file, replies })
