@@ -3,7 +3,8 @@ ghost use Rattle.ctr.specs.Ivs.{iv_bytes};
 
 use aes::block::word_at;
 
-/// An initialization vector of 12 bytes, as three words whose most significant byte comes first.
+/// An initialization vector of 12 bytes, as three words whose most significant byte comes first. Not one type with the block of four, since their
+/// bytes would be an array of a computed length.
 #[derive(Clone, Copy)]
 pub struct Iv {
     pub a: u32,

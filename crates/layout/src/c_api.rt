@@ -5,7 +5,7 @@ ghost use Rattle.layout.specs.Spans.{length_answer};
 use crate::layout::FileLayout;
 use code::report::Reported;
 
-/// What a C program is told of a length: code 0 and the two numbers, or the code of the refusal and zeros.
+/// What a C program is told of a length: code 0 and the two numbers, or the code of the refusal and zeros. A `Result` has no form in C.
 #[derive(Clone, Copy)]
 #[repr(C)]
 pub struct Ags1Length {

@@ -50,7 +50,7 @@ impl FileRead for TwoMemories {
     }
 }
 
-/// Bytes that lie in two borrowed memories in a row.
+/// Bytes that lie in two borrowed memories in a row. Not one of two sources of any kind, since a source doesn't tell code its length.
 #[derive(Drop)]
 pub struct TwoMemorySource<'a> {
     front: &'a [u8],
