@@ -1,7 +1,3 @@
-mod Lasts
-mod Frames
-mod Gathers
 pub mod Kepts
+mod Outcomes
 mod Pushes
-mod Sendings
-mod Wipes

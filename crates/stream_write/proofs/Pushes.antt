@@ -18,9 +18,10 @@ unfolding push_bytes push_byte
 push_failed size block e l p [] = refl
 push_failed size block e l p (x ∷ xs) = push_failed size block e l p xs
 
-pub push_none : (size : ℕ) (block : ℕ → List ℕ → List ℕ → List ℕ) (r : Run) → push_bytes size block r [] ≡ r
+pub push_none : (size : ℕ) (block : ℕ → List ℕ → List ℕ → List ℕ) (r : Run) (xs : List ℕ) → length xs ≡ 0 → push_bytes size block r xs ≡ r
 unfolding push_bytes
-push_none size block r = refl
+push_none size block r [] h = refl
+push_none size block r (x ∷ xs) h = absurd (omega arith)
 
 -- with room to spare, bytes are only gathered
 pub push_short : (size : ℕ) (block : ℕ → List ℕ → List ℕ → List ℕ) (t : List ℕ) (i : ℕ) (l : List (List ℕ)) (p : Port) (xs : List ℕ)

@@ -1,5 +1,5 @@
 -- What sending one block answers, and what it leaves of nonce source and sink.
-use Rattle.std.specs.Prelude.{◌≡◌, ℕ, ◌≤◌, true, false, List, [], ◌∷◌, drop, Ok, Err, Result}
+use Rattle.std.specs.Prelude.{◌≡◌, ℕ, ◌-◌, true, false, List, [], ◌∷◌, length, take, drop, Ok, Err, Result}
 use Rattle.error.specs.declared.cipher.CipherError.{CipherError}
 use Rattle.error.specs.declared.cipher.CipherError.TheVariants.{NoncesExhausted}
 use Rattle.error.specs.declared.storage.StorageError.{StorageError}
@@ -48,6 +48,6 @@ abbrev pub Sent : List (List ℕ) → Port → (List ℕ → List ℕ) → ℕ �
 Sent left p block i (Ok _) rest q = (n : List ℕ) × (left ≡ n ∷ rest) × (takes p (block n) ≡ true) × (q ≡ added p (block n))
 Sent left p block i (Err e) rest q = Refused left p block i (origin e) rest q
 
--- from place k on the memory is as it was
-abbrev pub SameFrom : ℕ → List ℕ → List ℕ → Type 0
-SameFrom k before after = (m : ℕ) → k ≤ m → drop m after ≡ drop m before
+-- what stands between the places of nonce and tag
+abbrev pub text_in : List ℕ → List ℕ
+text_in memory = take (length memory - 28) (drop 12 memory)

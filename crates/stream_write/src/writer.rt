@@ -5,7 +5,7 @@ use crate::phase::Phase;
 use layout::size::BlockSize;
 
 /// Writes an encrypted file to a sink. It owns its block buffer, in which plaintext is gathered and sealed, and gives it back,
-/// wiped, at its end; it cannot be let go otherwise. Sink, cipher, key and nonce source are handed to each call.
+/// wiped, at its end; it cannot be let go otherwise. Keyed cipher, sink and nonce source are handed to each call.
 pub struct AesGcmFileWrite {
     pub(crate) block: Vec<u8>,
     pub(crate) prefix: Vec<u8>,

@@ -1,30 +1,36 @@
-use Rattle.std.proofs.Common.{vec_items, ap}
+use Rattle.std.proofs.Common.{◌≡◌, ℕ, List, [], Ok, refl, sym, rules}
+use Rattle.std.proofs.lemmas.Bool.{cond_both}
 use Rattle.std.proofs.lemmas.Result.{err_from_is_err_and}
-use Rattle.aead.specs.Seals.{key_of}
-use Rattle.stream_write.specs.Calls.{state_of}
-use Rattle.stream_write.proofs.Gathers.{outcome_open, wrote_failed}
-use Rattle.stream_write.proofs.Lasts.{ended_fresh}
-use Rattle.stream_write.proofs.Kepts.{kept_on}
+use Rattle.error.specs.declared.storage.StorageError.TheVariants.{BlockNotTaken}
+use Rattle.error.specs.declared.stream.StreamError.TheVariants.{HeaderNotTaken}
+use Rattle.layout.specs.Format.{header}
+use Rattle.storage.specs.Ports.{Port, takes, added}
+use Rattle.stream_write.specs.Runs.{ok, failed, begin_run, Outcome}
+use Rattle.stream_write.specs.Writers.{State}
+use Rattle.stream_write.proofs.Outcomes.{outcome_ok, outcome_err}
+use Rattle.stream_write.proofs.Pushes.{push_failed}
 use Rattle.stream_write.proofs.writer.AesGcmFileWrite.call.Goals as goal
 
-pub returns-in_err-begin-in-Fresh-Write : goal.returns-in_err-begin-in-Fresh-Write
-returns-in_err-begin-in-Fresh-Write g c =
+-- a header that was taken
+begun_ok : (size : ℕ) (left : List (List ℕ)) (p q : Port) (after : State) → Outcome (begin_run size left p) (Ok tt) after left q → begin_run size left p ≡ ok [] 0 left q
+begun_ok size left p q after =
+    cond_both (takes p (header size)) (ok [] 0 left (added p (header size))) (failed (HeaderNotTaken BlockNotTaken) left p) (λ x. Outcome x (Ok tt) after left q → x ≡ ok [] 0 left q)
+    (λ k o. search rules)
+    (λ k o. search rules)
+
+pub returns-in_err-begin-in-Fresh-Write-clause-called : goal.returns-in_err-begin-in-Fresh-Write-clause-called
+returns-in_err-begin-in-Fresh-Write-clause-called g c =
     let p = err_from_is_err_and c.from_residual.result c.from_residual.ensures.1 in
-    record {
-      kept = c.begin.ensures.kept;
-      called = rw c.in-Fresh-Write.is-1 (wrote_failed _ _ c.args.self.now.phase _ _ _ _ c.in-Fresh-Write.bytes.now _ _ _ p.0 _ c.in-Fresh-Write.is-0 c.in_err-begin-in-Fresh-Write.was (c.begin.ensures.begun (g.N.NonceSource.left c.args.nonces.now)) p.1 p.2);
-    }
+    let o = outcome_err _ _ _ _ _ (c.in_err-begin-in-Fresh-Write.ensures.begun (g.N.NonceSource.left c.args.nonces.now)) in
+    rw (c.in-Fresh-Write.is-1, c.in-Fresh-Write.is-0, p.1, p.2, o.1, push_failed) (refl, o.0, refl, refl)
 
 pub gather-requires : goal.gather-requires
-gather-requires g c = outcome_open _ _ _ _ _ _ c.in_ok-begin-in-Fresh-Write.was (c.begin.ensures.begun (g.N.NonceSource.left c.args.nonces.now))
+gather-requires g c = (outcome_ok _ _ _ _ _ (c.in_ok-begin-in-Fresh-Write.ensures.begun (g.N.NonceSource.left c.args.nonces.now))).0
 
-pub returns-in_ok-begin-in-Fresh-Close : goal.returns-in_ok-begin-in-Fresh-Close
-returns-in_ok-begin-in-Fresh-Close g c =
-    let s = c.args.self.now in
-    let m = c.begin-in-Fresh-Close.new.self in
-    record {
-      kept = kept_on s m c.finish.new.self c.begin-in-Fresh-Close.ensures.kept c.finish.ensures.kept;
-      called = rw (c.in-Fresh-Close.is-1, c.in-Fresh-Close.is-0) (ended_fresh s.size.bytes (g.A.Aead.sealed c.args.cipher.now (key_of c.args.key.now)) (vec_items s.prefix) (vec_items m.prefix) (g.N.NonceSource.left c.args.nonces.now)
-          (g.K.FileWrite.port c.args.sink.now) (g.K.FileWrite.port c.begin-in-Fresh-Close.new.sink) c.begin-in-Fresh-Close.result c.finish.result (state_of m) (state_of c.finish.new.self) (g.N.NonceSource.left c.finish.new.nonces) (g.K.FileWrite.port c.finish.new.sink)
-          (ap vec_items c.begin-in-Fresh-Close.ensures.kept.1) c.in_ok-begin-in-Fresh-Close.was (c.begin-in-Fresh-Close.ensures.begun (g.N.NonceSource.left c.args.nonces.now)) c.finish.ensures.ended);
-    }
+pub returns-in_ok-begin-in-Fresh-Close-clause-called : goal.returns-in_ok-begin-in-Fresh-Close-clause-called
+returns-in_ok-begin-in-Fresh-Close-clause-called g c =
+    let b = c.begin-in-Fresh-Close in
+    let left = g.N.NonceSource.left c.args.nonces.now in
+    let o = begun_ok c.args.self.now.size.bytes left (g.K.FileWrite.port c.args.sink.now) (g.K.FileWrite.port b.new.sink) _ (c.in_ok-begin-in-Fresh-Close.ensures.begun left) in
+    let e = sym b.ensures.kept.1 in
+    rw (c.in-Fresh-Close.is-1, c.in-Fresh-Close.is-0, o, e) c.finish.ensures.ended

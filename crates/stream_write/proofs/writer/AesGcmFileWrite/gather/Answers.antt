@@ -1,40 +1,48 @@
-use Rattle.std.proofs.Common.{vec_items, sym, refl, ap, ◌∙◌, arith}
-use Rattle.std.proofs.lemmas.List.{length-take, length-drop}
-use Rattle.std.proofs.lemmas.Result.{err_from_is_err_and}
-use Rattle.aead.specs.Seals.{key_of}
-use Rattle.stream_write.specs.Runs.{failed}
-use Rattle.stream_write.proofs.Gathers.{step_on, ends_on, outcome_failed, outcome_of, push_end}
+use Rattle.std.proofs.Common.{◌≡◌, ℕ, ◌-◌, true, List, length, take, drop, Ok, vec_items, sym, refl, ap, ◌∙◌, arith, rules}
+use Rattle.std.proofs.lemmas.List.{take-append-drop, take_rest}
+use Rattle.std.proofs.lemmas.Bool.Decides.{nat_tests}
+use Rattle.aead.specs.Seals.{Sealed}
+use Rattle.stream_write.specs.Blocks.{block_of}
+use Rattle.storage.specs.Ports.{Port}
+use Rattle.stream_write.specs.Runs.{Run, Outcome, push_bytes, run_of}
+use Rattle.stream_write.specs.Writers.{state_in, is_open}
+use Rattle.stream_write.specs.declared.phase.Phase.{Phase}
+use Rattle.stream_write.specs.declared.phase.Phase.TheVariants.{Fresh, Open, Poisoned, Closed}
 use Rattle.stream_write.proofs.Kepts.{kept_on}
+use Rattle.stream_write.proofs.Pushes.{push_append, push_none}
 use Rattle.stream_write.proofs.writer.AesGcmFileWrite.gather.Goals as goal
 
-pub returns-in_err-n : goal.returns-in_err-n
-returns-in_err-n g c =
-    let p = err_from_is_err_and c.from_residual.result c.from_residual.ensures.1 in
-    let w = c.in_err-n.ensures.gathered in
-    let i = c.loop-at.invariant in
-    let k = i.2 in
-    record {
-      kept = kept_on c.args.self.now c.loop-at.self c.gather_some.new.self k c.gather_some.ensures.kept;
-      gathered = outcome_failed _ _ p.0 _ _ _ p.1 w.0
-          (ends_on c.args.self.now.size.bytes c.loop-at.self.size.bytes (g.A.Aead.sealed c.args.cipher.now (key_of c.args.key.now)) (vec_items c.args.self.now.prefix) (vec_items c.loop-at.self.prefix) _ _ _ c.args.bytes.now c.loop-at.at _ (ap (λ z. z.bytes) k.0) (ap vec_items k.1) refl w.1 i.3
-          ∙ ap (λ e. failed e (g.N.NonceSource.left c.gather_some.new.nonces) (g.K.FileWrite.port c.gather_some.new.sink)) (sym p.2));
-    }
+-- after n bytes more, what is left comes to the same; size and prefix stay as they were at the start
+step_on : (size₀ size : ℕ) (seal : List ℕ → List ℕ → List ℕ → Sealed) (pre₀ pre : List ℕ) (r₁ r₂ t : Run) (rest : List ℕ) (n : ℕ)
+    → size ≡ size₀ → pre ≡ pre₀
+    → r₂ ≡ push_bytes size (block_of seal pre) r₁ (take n rest)
+    → push_bytes size₀ (block_of seal pre₀) r₁ rest ≡ t
+    → push_bytes size₀ (block_of seal pre₀) r₂ (take (length rest - n) (drop n rest)) ≡ t
+step_on size₀ size seal pre₀ pre r₁ r₂ t rest n es ep e h =
+    rw (e, es, ep, take_rest) (sym (push_append size₀ (block_of seal pre₀) r₁ (take n rest) (drop n rest))
+    ∙ ap (λ w. push_bytes size₀ (block_of seal pre₀) r₁ w) (take-append-drop n rest) ∙ h)
 
-pub loop-at-preserved : goal.loop-at-preserved
-loop-at-preserved g c =
+-- once nothing is left, an open writer has what the run has
+ends_on : (size : ℕ) (block : ℕ → List ℕ → List ℕ → List ℕ) (x : Run) (xs : List ℕ) (ph : Phase) (b : List ℕ) (rest : List (List ℕ)) (q : Port)
+    → length xs ≡ 0 → is_open ph ≡ true → push_bytes size block (run_of (state_in ph b) rest q) xs ≡ x → Outcome x (Ok tt) (state_in ph b) rest q
+ends_on size block x xs Fresh b rest q z o e = search rules
+ends_on size block x xs (Open held i) b rest q z o e = let s = sym e in rw (s, push_none) (refl, refl, refl, refl)
+ends_on size block x xs Poisoned b rest q z o e = search rules
+ends_on size block x xs Closed b rest q z o e = search rules
+
+pub loop-rest-preserved : goal.loop-rest-preserved
+loop-rest-preserved g c =
     let w = c.in_ok-n.ensures.gathered in
-    let i = c.loop-at.invariant in
-    let k = i.2 in (
+    let i = c.loop-rest.invariant in
+    let es = ap (λ s. s.bytes) i.1.0 in
+    let ep = ap vec_items i.1.1 in (
       w.2,
-      omega (arith, (simp (length-take, length-drop) at w.1)),
-      kept_on c.args.self.now c.loop-at.self c.gather_some.new.self k c.gather_some.ensures.kept,
-      step_on c.args.self.now.size.bytes c.loop-at.self.size.bytes (g.A.Aead.sealed c.args.cipher.now (key_of c.args.key.now)) (vec_items c.args.self.now.prefix) (vec_items c.loop-at.self.prefix) _ _ _ c.args.bytes.now c.loop-at.at c.in_ok-n.n _ (ap (λ z. z.bytes) k.0) (ap vec_items k.1) refl w.3 i.3,
+      kept_on c.args.self.now c.loop-rest.self c.gather_some.new.self i.1 c.gather_some.ensures.kept,
+      search (rules, step_on),
     )
 
-pub returns : goal.returns
-returns g c =
-    let i = c.loop-at.invariant in
-    record {
-      kept = i.2;
-      gathered = outcome_of _ c.loop-at.self.phase (vec_items c.loop-at.self.block) _ _ i.0 (sym (push_end _ _ _ c.args.bytes.now c.loop-at.at (omega arith)) ∙ i.3);
-    }
+pub returns-clause-gathered : goal.returns-clause-gathered
+returns-clause-gathered g c =
+    let i = c.loop-rest.invariant in
+    let z : length c.loop-rest.rest.now ≡ 0 = grind (arith, nat_tests) in
+    search (rules, ends_on)
