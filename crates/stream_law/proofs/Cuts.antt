@@ -1,5 +1,5 @@
 -- Blocks cut from a plaintext.
-use Rattle.std.proofs.Common.{◌≡◌, ℕ, suc, ◌+◌, ◌*◌, ◌≤◌, List, [], ◌∷◌, ◌++◌, length, take, drop, sym, ap, ◌∙◌, suc-mul, zero-mul, arith}
+use Rattle.std.proofs.Common.{◌≡◌, ℕ, suc, ◌+◌, ◌*◌, ◌≤◌, List, [], ◌∷◌, ◌++◌, length, take, drop, sym, ap, ◌∙◌, arith}
 use Rattle.std.proofs.lemmas.List.{append_assoc, append-nil, length-drop, take-append-le, drop-append-le, take_all, nil_from_length}
 use Rattle.stream_law.specs.Files.{blocks_from}
 
@@ -9,13 +9,13 @@ pub blocks_more : (size : ℕ) (block : ℕ → List ℕ → List ℕ → List �
     → blocks_from size block i (ns ++ n ∷ []) (full ++ g) ≡ blocks_from size block i ns full ++ block (i + length ns) n g
 unfolding blocks_from
 blocks_more size block i [] n full g h u =
-    let z : length full ≡ 0 = h ∙ zero-mul size in
+    let z : length full ≡ 0 = omega (arith, h) in
     let e : full ++ g ≡ g = ap (λ w. w ++ g) (nil_from_length full z) in
     let k : i ≡ i + 0 = omega arith in
     append-nil (block i n (take size (full ++ g)))
     ∙ ap (λ w. block i n (take size w)) e ∙ ap (λ w. block i n w) (take_all size g u) ∙ ap (λ j. block j n g) k
 blocks_more size block i (m ∷ ns) n full g h u =
-    let s : length full ≡ length ns * size + size = h ∙ suc-mul (length ns) size in
+    let s : length full ≡ length ns * size + size = omega (arith, h) in
     let le : size ≤ length full = omega arith in
     let ld : length (drop size full) ≡ length ns * size = simp length-drop (omega arith) in
     let k : suc i + length ns ≡ i + suc (length ns) = omega arith in

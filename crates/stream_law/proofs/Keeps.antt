@@ -1,5 +1,5 @@
 -- Every write and close keeps what holds.
-use Rattle.std.proofs.Common.{◌≡◌, ℕ, zero, suc, ◌+◌, ◌*◌, ◌<◌, ◌≤◌, false, cond, ◌&&◌, eqb, ltb, ◌⊎◌, List, [], ◌∷◌, ◌++◌, length, Err, Result, sym, refl, ap, ◌∙◌, inl, inr, ⊎_elim, suc-mul, zero-mul, arith}
+use Rattle.std.proofs.Common.{◌≡◌, ℕ, zero, suc, ◌+◌, ◌*◌, ◌<◌, ◌≤◌, false, cond, ◌&&◌, eqb, ltb, ◌⊎◌, List, [], ◌∷◌, ◌++◌, length, Err, Result, sym, refl, ap, ◌∙◌, inl, inr, ⊎_elim, zero-mul, arith}
 use Rattle.std.proofs.lemmas.List.{append_assoc, append-nil, length-append, length_push, nil_from_length}
 use Rattle.std.proofs.lemmas.Bool.{ltb-true, ltb-false, cond_both, and_parts, and_cases, eqb-true, eqb-false}
 use Rattle.storage.specs.Ports.{Port, takes, added}
@@ -43,9 +43,6 @@ sent_bytes size block t ns g i p n x s u =
     ∙ append_assoc (header size) (blocks_from size block 0 ns s.full) (block i n x)
     ∙ ap (λ w. header size ++ w) (ap (λ k. blocks_from size block 0 ns s.full ++ block k n x) k ∙ sym (blocks_more size block 0 ns n s.full x c u))
 
-next_mul : (i size : ℕ) → (i + 1) * size ≡ i * size + size
-next_mul i size = let e : i + 1 ≡ suc i = omega arith in ap (λ k. k * size) e ∙ suc-mul i size
-
 -- a block sent: a refusal spoils the file, else Q holds of what is left
 pub send_by : (size : ℕ) (block : ℕ → List ℕ → List ℕ → List ℕ) (start ns : List (List ℕ)) (Q : List (List ℕ) → List ℕ → ℕ → Port → Type 0) (t g : List ℕ) (i : ℕ) (p : Port) (used left : List (List ℕ)) (x : List ℕ)
     → start ≡ used ++ left → Stands size block t (ns ++ used) g i p → ((n : List ℕ) → i < 4294967295 → Q (used ++ n ∷ []) [] (i + 1) (added p (block i n x)))
@@ -69,7 +66,6 @@ full_stands size block t t' ns used g i p n x s f l z e =
     let a : (ns ++ used) ++ n ∷ [] ≡ ns ++ (used ++ n ∷ []) = append_assoc ns used (n ∷ []) in
     let b = s.blocks in
     let c = s.cut in
-    let m = next_mul i size in
     record {
       full = s.full ++ x;
       text = e ∙ sym (append-nil (s.full ++ x));
@@ -119,7 +115,7 @@ begin_keeps size block t ns left p z h =
         text = h.0;
         blocks = ap length en;
         few = omega arith;
-        cut = sym (zero-mul size);
+        cut = omega arith;
         under = z;
         bytes = ap (λ w. w ++ header size) h.2 ∙ ap (λ w. header size ++ blocks_from size block 0 w []) (sym en);
       },
@@ -128,7 +124,7 @@ begin_keeps size block t ns left p z h =
 
 counts_full : (size n i : ℕ) → 1 ≤ size → n ≡ i * size → 0 < i → Counts size n i
 counts_full size n zero z e h = absurd (omega arith)
-counts_full size n (suc j) z e h = let m = suc-mul j size in (j, refl, omega arith, inr (omega arith))
+counts_full size n (suc j) z e h = (j, refl, omega arith, inr (omega arith))
 
 -- the last block, or none where the text ends with a full one
 pub last_keeps : (size : ℕ) (block : ℕ → List ℕ → List ℕ → List ℕ) (start : List (List ℕ)) (t : List ℕ) (ns : List (List ℕ)) (run : Run)
@@ -155,7 +151,6 @@ last_keeps size block start t ns (ok g i left p) z (used, e, s) =
     (λ n j.
     let a : (ns ++ used) ++ n ∷ [] ≡ ns ++ (used ++ n ∷ []) = append_assoc ns used (n ∷ []) in
     let l : length (ns ++ (used ++ n ∷ [])) ≡ suc i = ap length (sym a) ∙ length_push (ns ++ used) n ∙ omega arith in
-    let m = suc-mul i size in
     let o : (i ≡ 0) ⊎ (i * size < length t) =
     ⊎_elim (λ (k : eqb (length g) 0 ≡ false). let q = eqb-false (length g) 0 k in inr (omega arith))
     (λ (k : ltb 0 i ≡ false). let q = ltb-false 0 i k in inl (omega arith)) (and_cases (eqb (length g) 0) (ltb 0 i) h) in

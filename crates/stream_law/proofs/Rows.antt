@@ -1,5 +1,5 @@
 -- Header and blocks in a row are the file of a plaintext.
-use Rattle.std.proofs.Common.{◌≡◌, ℕ, zero, suc, ◌+◌, ◌-◌, ◌*◌, ◌<◌, ◌≤◌, min, List, [], ◌∷◌, ◌++◌, length, get_or, take, drop, sym, refl, ap, ◌∙◌, ⊎_elim, mul-le-mul_right, suc-mul, zero-mul, mul-add, arith}
+use Rattle.std.proofs.Common.{◌≡◌, ℕ, zero, suc, ◌+◌, ◌-◌, ◌*◌, ◌<◌, ◌≤◌, min, List, [], ◌∷◌, ◌++◌, length, get_or, take, drop, sym, refl, ap, ◌∙◌, ⊎_elim, mul-le-mul_right, arith}
 use Rattle.std.proofs.lemmas.List.{length-take, length-drop, length-append, drop-drop, drop_at, take_at, drop_more}
 use Rattle.std.proofs.lemmas.Bool.{cases_lt}
 use Rattle.aead.specs.Draws.{Twelve}
@@ -19,11 +19,8 @@ Shaped size n k = (s : Shape) × Proper size s × Closed s × (plain_bytes size 
 
 shape_of : (size n k : ℕ) → 1 ≤ size → Counts size n k → Shaped size n k
 shape_of size n k z (j, e, h, o) =
-    let a : k * size ≡ j * size + size = ap (λ x. x * size) e ∙ suc-mul j size in
-    let b : k * 28 ≡ j * 28 + 28 = ap (λ x. x * 28) e ∙ suc-mul j 28 in
-    let c : j * (size + 28) ≡ j * size + j * 28 = mul-add j size 28 in
-    let d : k * (size + 28) ≡ k * size + k * 28 = mul-add k size 28 in
-    let l : j * size ≤ n = ⊎_elim (λ (q : j ≡ 0). let y : j * size ≡ 0 = ap (λ x. x * size) q ∙ zero-mul size in omega arith) (λ (q : j * size < n). omega arith) o in
+    let a = ap (λ x. x * size) e in
+    let l : j * size ≤ n = ⊎_elim (λ (q : j ≡ 0). omega (arith, ap (λ x. x * size) q)) (λ (q : j * size < n). omega arith) o in
     ⊎_elim
     (λ (m : n - j * size < size). (
       Partial j (n - j * size),
@@ -40,15 +37,13 @@ shape_of size n k z (j, e, h, o) =
 reaches : (size n k i : ℕ) → Counts size n k → i < k → i * size ≤ n
 reaches size n k i (j, e, h, o) l =
     let m : i * size ≤ j * size = mul-le-mul_right size (omega arith) in
-    ⊎_elim (λ (q : j ≡ 0). let y : j * size ≡ 0 = ap (λ x. x * size) q ∙ zero-mul size in omega arith) (λ (q : j * size < n). omega arith) o
+    ⊎_elim (λ (q : j ≡ 0). omega (arith, ap (λ x. x * size) q)) (λ (q : j * size < n). omega arith) o
 
 module _ (size : ℕ) (block : ℕ → List ℕ → List ℕ → List ℕ) (long : (i : ℕ) (n t : List ℕ) → length n ≡ 12 → length (block i n t) ≡ length t + 28) where
   length-blocks : (i : ℕ) (ns : List (List ℕ)) (t : List ℕ) → Twelve ns → length t ≤ length ns * size → length (blocks_from size block i ns t) ≡ length t + length ns * 28
   unfolding blocks_from
-  length-blocks i [] t w h = let z = zero-mul size in omega arith
+  length-blocks i [] t w h = omega arith
   length-blocks i (n ∷ ns) t (w, ws) h =
-      let b : suc (length ns) * size ≡ length ns * size + size = suc-mul (length ns) size in
-      let c : suc (length ns) * 28 ≡ length ns * 28 + 28 = suc-mul (length ns) 28 in
       let lb = long i n (take size t) w in
       let lt : length (take size t) ≡ min size (length t) = length-take size t in
       let ld : length (drop size t) ≡ length t - size = length-drop size t in
@@ -60,14 +55,12 @@ module _ (size : ℕ) (block : ℕ → List ℕ → List ℕ → List ℕ) (long
       → drop (k * (size + 28)) (blocks_from size block i ns t) ≡ blocks_from size block (i + k) (drop k ns) (drop (k * size) t)
   unfolding blocks_from
   blocks_past i zero ns t w h m =
-      let z : 0 * (size + 28) ≡ 0 = zero-mul (size + 28) in
-      let y : 0 * size ≡ 0 = zero-mul size in
+      let z : 0 * (size + 28) ≡ 0 = omega arith in
+      let y : 0 * size ≡ 0 = omega arith in
       let x : i ≡ i + 0 = omega arith in
       ap (λ a. drop a (blocks_from size block i ns t)) z ∙ ap (λ a. blocks_from size block a ns t) x ∙ ap (λ a. blocks_from size block (i + 0) ns (drop a t)) (sym y)
   blocks_past i (suc k) [] t w h m = absurd (omega arith)
   blocks_past i (suc k) (n ∷ ns) t (w, ws) h m =
-      let a : suc k * (size + 28) ≡ k * (size + 28) + (size + 28) = suc-mul k (size + 28) in
-      let b : suc k * size ≡ k * size + size = suc-mul k size in
       let lu : length (take size t) ≡ size = simp length-take (omega arith) in
       let lb : length (block i n (take size t)) ≡ size + 28 = long i n (take size t) w ∙ ap (λ x. x + 28) lu in
       let ld : k * size ≤ length (drop size t) = simp length-drop (omega arith) in

@@ -1,11 +1,10 @@
 ghost use Rattle.std.specs.Prelude.{◌≡◌, ℕ, List};
-ghost use Rattle.aead.specs.Seals.{key_of};
+ghost use Rattle.aead.specs.Seals.{sealing};
 ghost use Rattle.stream_write.specs.Calls.{state_of, size_of, block_by, Kept};
 ghost use Rattle.stream_law.specs.Deeds.{bytes_of, is_closed, closes};
 ghost use Rattle.stream_law.specs.Files.{Holds, Does};
 
-use aead::aead::Aead;
-use aead::key::SecureKey;
+use aead::aead::{Aead, KeyedCipher};
 use aead::source::NonceSource;
 use error::stream::StreamError;
 use storage::sink::FileWrite;
@@ -16,14 +15,13 @@ use stream_write::writer::AesGcmFileWrite;
 pub fn call<K: FileWrite, A: Aead, N: NonceSource>(
     writer: &mut AesGcmFileWrite,
     call: FileCall<'_>,
-    key: &SecureKey,
+    keyed: &KeyedCipher<'_, A>,
     sink: &mut K,
-    cipher: &A,
     nonces: &mut N,
 ) -> Result<(), StreamError>
     ensures kept { Kept writer.old writer.new }
     ensures shut { is_closed (state_of writer.new) ≡ closes call.entry result (is_closed (state_of writer.old)) }
-    ensures does { (t : List ℕ) (ns : List (List ℕ)) → Holds (size_of writer.old) (block_by (A.sealed cipher.now (key_of key.now)) writer.old) t ns (state_of writer.old) (K.port sink.old) → Does (size_of writer.old) (block_by (A.sealed cipher.now (key_of key.now)) writer.old) t ns (N.left nonces.old) (bytes_of call.entry) result (state_of writer.new) (N.left nonces.new) (K.port sink.new) }
+    ensures does { (t : List ℕ) (ns : List (List ℕ)) → Holds (size_of writer.old) (block_by (sealing A.sealed keyed.now) writer.old) t ns (state_of writer.old) (K.port sink.old) → Does (size_of writer.old) (block_by (sealing A.sealed keyed.now) writer.old) t ns (N.left nonces.old) (bytes_of call.entry) result (state_of writer.new) (N.left nonces.new) (K.port sink.new) }
 {
-    writer.call(call, key, sink, cipher, nonces)
+    writer.call(call, keyed, sink, nonces)
 }
