@@ -1,11 +1,11 @@
--- Keystream laid over bytes, in place and from other memory.
-use Rattle.std.proofs.Common.{◌≡◌, ℕ, suc, ◌+◌, ◌-◌, ◌*◌, ◌<◌, ◌≤◌, List, [], ◌∷◌, ◌++◌, length, get_or, take, drop, set, sym, refl, ap, ◌∙◌, le_of_suc-le-suc, not-suc-le-zero, arith}
+-- Keystream laid over bytes in place, and over a text block by block.
+use Rattle.std.proofs.Common.{◌≡◌, ℕ, suc, ◌+◌, ◌-◌, ◌/◌, ◌<◌, ◌≤◌, List, [], ◌∷◌, ◌++◌, length, get_or, take, drop, set, min, sym, refl, ap, le_of_suc-le-suc, not-suc-le-zero, arith, ⊎_elim}
 use lib.Bits.{bit_xor}
-use Rattle.std.proofs.lemmas.List.{append_assoc, append-nil, take_more_set, drop_more, drop-set-lt, drop-drop, take_all, drop_all, length-drop, length-take-le, take_rest, take-append-drop}
-use Rattle.std.proofs.lemmas.Slice.{take-put_mid, drop-put_mid}
+use Rattle.std.proofs.lemmas.List.{append_assoc, append-nil, take_at, drop_at, length-take, length-append, take_rest, take_more_set, drop_more, drop-set-lt, take_all, drop_all, length-drop, length-take-le}
+use Rattle.std.proofs.lemmas.Bool.{cases_lt}
 use borrow.Rule.Slice.PartMut.{put_mid}
 use Rattle.aes.specs.Cipher.{xor_bytes}
-use Rattle.ctr.specs.Gctr.{inc32, blocks}
+use Rattle.ctr.specs.Gctr.{inc32, blocks, gctr}
 
 pub length-xor : (xs ys : List ℕ) → length xs ≤ length ys → length (xor_bytes xs ys) ≡ length xs
 unfolding xor_bytes
@@ -13,109 +13,74 @@ length-xor [] ys h = refl
 length-xor (x ∷ xs) [] h = absurd (not-suc-le-zero h)
 length-xor (x ∷ xs) (y ∷ ys) h = ap suc (length-xor xs ys (le_of_suc-le-suc h))
 
--- one byte more, from other memory
-pub xor_into_more : (s ks out : List ℕ) (i : ℕ) → i < length s → i < length ks → i < length out
-    → take (i + 1) (set out i (bit_xor (get_or s i 0) (get_or ks i 0))) ++ xor_bytes (drop (i + 1) s) (drop (i + 1) ks)
-    ≡ take i out ++ xor_bytes (drop i s) (drop i ks)
-unfolding xor_bytes
-xor_into_more s ks out i h k o =
-    let b = bit_xor (get_or s i 0) (get_or ks i 0) in
-    let e : drop i s ≡ get_or s i 0 ∷ drop (i + 1) s = drop_more s i 0 h in
-    let f : drop i ks ≡ get_or ks i 0 ∷ drop (i + 1) ks = drop_more ks i 0 k in
-    let g : xor_bytes (drop i s) (drop i ks) ≡ b ∷ xor_bytes (drop (i + 1) s) (drop (i + 1) ks) =
-    ap (λ (y : List ℕ). xor_bytes y (drop i ks)) e ∙ ap (xor_bytes (get_or s i 0 ∷ drop (i + 1) s)) f in
-    ap (λ (y : List ℕ). y ++ xor_bytes (drop (i + 1) s) (drop (i + 1) ks)) (take_more_set out i b o)
-    ∙ append_assoc (take i out) (b ∷ []) (xor_bytes (drop (i + 1) s) (drop (i + 1) ks))
-    ∙ ap (λ (y : List ℕ). take i out ++ y) (sym g)
-
--- and in place
+-- one byte more
 pub xor_more : (s ks : List ℕ) (i : ℕ) → i < length s → i < length ks
     → take (i + 1) (set s i (bit_xor (get_or s i 0) (get_or ks i 0))) ++ xor_bytes (drop (i + 1) (set s i (bit_xor (get_or s i 0) (get_or ks i 0)))) (drop (i + 1) ks)
     ≡ take i s ++ xor_bytes (drop i s) (drop i ks)
+unfolding xor_bytes
 xor_more s ks i h k =
     let b = bit_xor (get_or s i 0) (get_or ks i 0) in
     let l : i < i + 1 = omega arith in
-    ap (λ (y : List ℕ). take (i + 1) (set s i b) ++ xor_bytes y (drop (i + 1) ks)) (drop-set-lt (i + 1) s i b l)
-    ∙ xor_into_more s ks s i h k h
+    let e : drop i s ≡ get_or s i 0 ∷ drop (i + 1) s = drop_more s i 0 h in
+    let f : drop i ks ≡ get_or ks i 0 ∷ drop (i + 1) ks = drop_more ks i 0 k in
+    let g : xor_bytes (drop i s) (drop i ks) ≡ b ∷ xor_bytes (drop (i + 1) s) (drop (i + 1) ks) = rw (e, f) in
+    rw (drop-set-lt (i + 1) s i b l, take_more_set s i b h, append_assoc, g)
 
-pub xor_all : (s ks out : List ℕ) (i : ℕ) → length s ≤ i → length out ≤ i → take i out ++ xor_bytes (drop i s) (drop i ks) ≡ out
+pub xor_all : (s ks : List ℕ) (i : ℕ) → length s ≤ i → take i s ++ xor_bytes (drop i s) (drop i ks) ≡ s
 unfolding xor_bytes
-xor_all s ks out i h o =
-    ap (λ (y : List ℕ). take i out ++ xor_bytes y (drop i ks)) (drop_all i s h) ∙ append-nil (take i out) ∙ take_all i out o
+xor_all s ks i h = rw (drop_all i s h, take_all i s h, append-nil)
+
+-- a list in two parts, the second empty where the first is short
+parts : (p q : List ℕ) (n : ℕ) → length p ≤ n → (length p < n → q ≡ []) → (take n (p ++ q) ≡ p) × (drop n (p ++ q) ≡ q)
+parts p q n l e =
+    ⊎_elim
+    (λ h. let z = e h in rw (z, append-nil) (take_all n p l, drop_all n p l))
+    (λ h. let f : length p ≡ n = omega arith in (take_at p q n f, drop_at p q n f))
+    (cases_lt (length p) n)
 
 module _ (ks : ℕ → List ℕ) where
-  -- one block more
-  into_more : (k s out : List ℕ) (at left m n n' : ℕ)
-      → at + 16 ≤ length s → at ≤ length out → length k ≡ 16 → k ≡ ks n → left ≡ suc m → n' ≡ inc32 n
-      → take (at + 16) (put_mid at 16 out (xor_bytes (take 16 (drop at s)) k)) ++ blocks ks m n' (drop (at + 16) s)
-      ≡ take at out ++ blocks ks left n (drop at s)
-  unfolding blocks
-  into_more k s out at left m n n' h o lk e el en =
-      let ld : length (drop at s) ≡ length s - at = length-drop at s in
-      let lt : length (take 16 (drop at s)) ≡ 16 = length-take-le 16 (drop at s) (omega arith) in
-      let y = xor_bytes (take 16 (drop at s)) k in
-      let ly : length y ≡ 16 = length-xor (take 16 (drop at s)) k (omega arith) ∙ lt in
-      let p : take (at + 16) (put_mid at 16 out y) ≡ take at out ++ y = take-put_mid at 16 out y (at + 16) (omega arith) o in
-      ap (λ (z : List ℕ). z ++ blocks ks m n' (drop (at + 16) s)) p
-      ∙ ap (λ (z : List ℕ). (take at out ++ y) ++ blocks ks m n' z) (sym (drop-drop 16 at s))
-      ∙ append_assoc (take at out) y (blocks ks m n' (drop 16 (drop at s)))
-      ∙ ap (λ (z : ℕ). take at out ++ (y ++ blocks ks m z (drop 16 (drop at s)))) en
-      ∙ ap (λ (z : List ℕ). take at out ++ (xor_bytes (take 16 (drop at s)) z ++ blocks ks m (inc32 n) (drop 16 (drop at s)))) e
-      ∙ ap (λ (z : ℕ). take at out ++ blocks ks z n (drop at s)) (sym el)
+  gctr_nil : (n : ℕ) → gctr ks n [] ≡ []
+  unfolding xor_bytes blocks gctr
+  gctr_nil n = refl
+
+  gctr_short : (n : ℕ) (s : List ℕ) → length s < 16 → gctr ks n s ≡ xor_bytes s (ks n)
+  unfolding blocks gctr
+  gctr_short n s h = let e : length s / 16 ≡ 0 = omega arith in ap (λ (m : ℕ). blocks ks m n s) e
+
+  gctr_long : (n : ℕ) (s : List ℕ) → 16 ≤ length s → gctr ks n s ≡ xor_bytes (take 16 s) (ks n) ++ gctr ks (inc32 n) (drop 16 s)
+  unfolding blocks gctr
+  gctr_long n s h =
+      let d = length-drop 16 s in
+      let e : length s / 16 ≡ suc (length (drop 16 s) / 16) = omega arith in
+      ap (λ (m : ℕ). blocks ks m n s) e
+
+  -- one block more, which may be short
+  gctr_more : (n : ℕ) (s : List ℕ) → gctr ks n s ≡ xor_bytes (take 16 s) (ks n) ++ gctr ks (inc32 n) (drop 16 s)
+  gctr_more n s =
+      ⊎_elim
+      (λ h.
+      let l : length s ≤ 16 = omega arith in
+      rw (gctr_short n s h, drop_all 16 s l, take_all 16 s l, gctr_nil, append-nil))
+      (gctr_long n s)
+      (cases_lt (length s) 16)
 
   -- a turn of the loop, in the words of the code
-  pub into_turn : (k s out y : List ℕ) (i whole n n' : ℕ)
-      → i < whole → whole * 16 ≤ length s → whole * 16 ≤ length out → length k ≡ 16 → k ≡ ks n → n' ≡ inc32 n
-      → y ≡ xor_bytes (take (i * 16 + 16 - i * 16) (drop (i * 16) s)) k
-      → take ((i + 1) * 16) (put_mid (i * 16) (i * 16 + 16 - i * 16) out y) ++ blocks ks (whole - (i + 1)) n' (drop ((i + 1) * 16) s)
-      ≡ take (i * 16) out ++ blocks ks (whole - i) n (drop (i * 16) s)
-  into_turn k s out y i whole n n' h w o lk e en ey =
-      let f : (i + 1) * 16 ≡ i * 16 + 16 = omega arith in
-      let g : i * 16 + 16 - i * 16 ≡ 16 = omega arith in
-      let z = into_more k s out (i * 16) (whole - i) (whole - (i + 1)) n n' (omega arith) (omega arith) lk e (omega arith) en in
-      let fy : y ≡ xor_bytes (take 16 (drop (i * 16) s)) k = ey ∙ ap (λ (t : ℕ). xor_bytes (take t (drop (i * 16) s)) k) g in
-      ap (λ (t : ℕ). take t (put_mid (i * 16) (i * 16 + 16 - i * 16) out y) ++ blocks ks (whole - (i + 1)) n' (drop t s)) f
-      ∙ ap (λ (t : ℕ). take (i * 16 + 16) (put_mid (i * 16) t out y) ++ blocks ks (whole - (i + 1)) n' (drop (i * 16 + 16) s)) g
-      ∙ ap (λ (t : List ℕ). take (i * 16 + 16) (put_mid (i * 16) 16 out t) ++ blocks ks (whole - (i + 1)) n' (drop (i * 16 + 16) s)) fy
-      ∙ z
+  pub turn : (k s y : List ℕ) (at n n' : ℕ) → at ≤ length s → length k ≡ 16 → k ≡ ks n → n' ≡ inc32 n
+      → y ≡ xor_bytes (take 16 (take (length s - at) (drop at s))) k ++ drop 16 (take (length s - at) (drop at s))
+      → take (at + 16) (put_mid at (length s - at) s y) ++ gctr ks n' (drop (at + 16) (put_mid at (length s - at) s y)) ≡ take at s ++ gctr ks n (drop at s)
+  turn k s y at n n' h lk ek en ey =
+      let r = drop at s in
+      let x = xor_bytes (take 16 r) k in
+      let ld : length r ≡ length s - at = length-drop at s in
+      let lt : length (take 16 r) ≡ min 16 (length r) = length-take 16 r in
+      let lx : length x ≡ length (take 16 r) = length-xor (take 16 r) k (omega arith) in
+      let la : length (take at s) ≡ at = length-take-le at s h in
+      let lp = length-append (take at s) x in
+      let fy : y ≡ x ++ drop 16 r = rw (← take_rest s at) ey in
+      let e : drop (length s - at) r ≡ [] = drop_all (length s - at) r (omega arith) in
+      let t : put_mid at (length s - at) s y ≡ (take at s ++ x) ++ drop 16 r = rw (e, append-nil, fy, append_assoc) in
+      let p = parts (take at s ++ x) (drop 16 r) (at + 16) (omega arith) (λ e. drop_all 16 r (omega arith)) in
+      rw (t, p.0, p.1, append_assoc, en, ek) (ap (λ z. take at s ++ z) (sym (gctr_more n r)))
 
-  -- and in place
-  pub turn : (k s y : List ℕ) (i whole n n' : ℕ)
-      → i < whole → whole * 16 ≤ length s → length k ≡ 16 → k ≡ ks n → n' ≡ inc32 n → length y ≡ 16
-      → y ≡ xor_bytes (take (i * 16 + 16 - i * 16) (drop (i * 16) s)) k
-      → take ((i + 1) * 16) (put_mid (i * 16) (i * 16 + 16 - i * 16) s y) ++ blocks ks (whole - (i + 1)) n' (drop ((i + 1) * 16) (put_mid (i * 16) (i * 16 + 16 - i * 16) s y))
-      ≡ take (i * 16) s ++ blocks ks (whole - i) n (drop (i * 16) s)
-  turn k s y i whole n n' h w lk e en ly ey =
-      ap (λ (z : List ℕ). take ((i + 1) * 16) (put_mid (i * 16) (i * 16 + 16 - i * 16) s y) ++ blocks ks (whole - (i + 1)) n' z)
-      (drop-put_mid (i * 16) (i * 16 + 16 - i * 16) s y ((i + 1) * 16) (omega arith) (omega arith) (omega arith))
-      ∙ into_turn k s s y i whole n n' h w w lk e en ey
-
-  -- the rest, which may be empty, and what lies past it
-  pub into_end : (k s out y : List ℕ) (at i whole n : ℕ)
-      → i ≡ whole → at ≡ i * 16 → at ≤ length s → length s ≤ length out → length s - at ≤ 16 → length k ≡ 16 → k ≡ ks n
-      → y ≡ xor_bytes (take (length s - at) (drop at s)) k
-      → put_mid at (length s - at) out y ≡ (take (i * 16) out ++ blocks ks (whole - i) n (drop (i * 16) s)) ++ drop (length s) out
-  unfolding blocks
-  into_end k s out y at i whole n ei ea h o l lk e ey =
-      let ld : length (drop at s) ≡ length s - at = length-drop at s in
-      let fy : y ≡ xor_bytes (drop at s) k = ey ∙ ap (λ (t : List ℕ). xor_bytes t k) (take_rest s at) in
-      let ly : length y ≡ length s - at = ap length fy ∙ length-xor (drop at s) k (omega arith) ∙ ld in
-      let p : take (length s) (put_mid at (length s - at) out y) ≡ take at out ++ y = take-put_mid at (length s - at) out y (length s) (omega arith) (omega arith) in
-      let q : drop (length s) (put_mid at (length s - at) out y) ≡ drop (length s) out = drop-put_mid at (length s - at) out y (length s) (omega arith) (omega arith) ly in
-      let z : whole - i ≡ 0 = omega arith in
-      sym (take-append-drop (length s) (put_mid at (length s - at) out y))
-      ∙ ap (λ (t : List ℕ). t ++ drop (length s) (put_mid at (length s - at) out y)) p
-      ∙ ap (λ (t : List ℕ). (take at out ++ y) ++ t) q
-      ∙ ap (λ (t : List ℕ). (take at out ++ t) ++ drop (length s) out) (fy ∙ ap (xor_bytes (drop at s)) e)
-      ∙ ap (λ (t : ℕ). (take at out ++ blocks ks t n (drop at s)) ++ drop (length s) out) (sym z)
-      ∙ ap (λ (t : ℕ). (take t out ++ blocks ks (whole - i) n (drop t s)) ++ drop (length s) out) ea
-
-  pub end : (k s y : List ℕ) (at i whole n : ℕ)
-      → i ≡ whole → at ≡ i * 16 → at ≤ length s → length s - at ≤ 16 → length k ≡ 16 → k ≡ ks n
-      → y ≡ xor_bytes (take (length s - at) (drop at s)) k
-      → put_mid at (length s - at) s y ≡ take (i * 16) s ++ blocks ks (whole - i) n (drop (i * 16) s)
-  end k s y at i whole n ei ea h l lk e ey =
-      let o : length s ≤ length s = omega arith in
-      into_end k s s y at i whole n ei ea h o l lk e ey
-      ∙ ap (λ (t : List ℕ). (take (i * 16) s ++ blocks ks (whole - i) n (drop (i * 16) s)) ++ t) (drop_all (length s) s o)
-      ∙ append-nil (take (i * 16) s ++ blocks ks (whole - i) n (drop (i * 16) s))
+  pub end : (n at : ℕ) (s : List ℕ) → length s ≤ at → take at s ++ gctr ks n (drop at s) ≡ s
+  end n at s h = rw (drop_all at s h, take_all at s h, gctr_nil, append-nil)

@@ -1,2 +1,3 @@
 pub mod Gctr
 pub mod Ivs
+pub mod Keystreams

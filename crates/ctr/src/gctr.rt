@@ -1,82 +1,64 @@
-ghost use Rattle.std.specs.Prelude.{◌≡◌, ℕ, ◌≤◌, List, ◌++◌, length, drop};
+ghost use Rattle.std.specs.Prelude.{◌≡◌, ℕ, ◌≤◌, List, ◌++◌, length, take, drop};
 ghost use Rattle.aes.specs.Cipher.{xor_bytes};
-ghost use Rattle.aes.specs.Schedules.{scheduled};
-ghost use Rattle.ctr.specs.Gctr.{stream, gctr as gctr_of};
-ghost use Rattle.ctr.specs.Ivs.{iv_bytes};
+ghost use Rattle.ctr.specs.Gctr.{gctr};
+ghost use Rattle.ctr.specs.Keystreams.{keystream_of};
 
 use crate::iv::Iv;
 use aes::block::Block;
 use aes::schedule::Schedule;
 
-/// The block of the keystream at a counter: the cipher of the IV followed by the counter.
-pub fn keystream(schedule: &Schedule, iv: Iv, counter: u32) -> [u8; 16]
-    ensures { result ≡ stream (scheduled schedule.now) (iv_bytes iv) counter }
-{
-    schedule
-        .encrypt(Block {
-            a: iv.a,
-            b: iv.b,
-            c: iv.c,
-            d: counter,
-        })
-        .to_bytes()
+/// The keystream of a schedule and an IV.
+#[derive(Clone, Copy)]
+pub struct Keystream<'k> {
+    pub schedule: &'k Schedule,
+    pub iv: Iv,
 }
 
-/// Lays a block of the keystream over at most 16 bytes.
-pub fn xor_block(text: &mut [u8], stream: &[u8; 16])
-    requires { length text.old ≤ 16 }
-    ensures { text.new ≡ xor_bytes text.old stream.now }
+/// Lays a block of the keystream over the front of a text.
+pub fn xor_block(text: &mut [u8], block: &[u8; 16])
+    ensures { text.new ≡ xor_bytes (take 16 text.old) block.now ++ drop 16 text.old }
 {
-    for i in 0..text.len() {
-        text[i] ^= stream[i];
+    let n = text.len().min(16);
+    // By index: after a loop over `iter_mut().zip(..)` a proof knows the slice's length alone.
+    for (i, byte) in text[..n].iter_mut().enumerate() {
+        *byte ^= block[i];
     }
 }
 
-// The same from other memory of the same length.
-fn xor_block_into(text: &[u8], stream: &[u8; 16], out: &mut [u8])
-    requires text_len_bound { length text.now ≤ 16 }
-    requires out_len { length out.old ≡ length text.now }
-    ensures { out.new ≡ xor_bytes text.now stream.now }
-{
-    for i in 0..text.len() {
-        out[i] = text[i] ^ stream[i];
+impl Keystream<'_> {
+    /// The block of the keystream at a counter: the cipher of the IV followed by the counter.
+    pub fn block(self, counter: u32) -> [u8; 16]
+        ensures { result ≡ keystream_of self.entry counter }
+    {
+        self.schedule
+            .encrypt(Block {
+                a: self.iv.a,
+                b: self.iv.b,
+                c: self.iv.c,
+                d: counter,
+            })
+            .to_bytes()
     }
-}
 
-/// Lays the keystream from `counter` on over the text.
-pub fn gctr(schedule: &Schedule, iv: Iv, counter: u32, text: &mut [u8])
-    ensures { text.new ≡ gctr_of (stream (scheduled schedule.now) (iv_bytes iv)) counter text.old }
-{
-    let mut count = counter;
-    let whole = text.len() / 16;
-    for i in 0..whole {
-        let block = keystream(schedule, iv, count);
-        xor_block(&mut text[i * 16..i * 16 + 16], &block);
-        count = count.wrapping_add(1);
+    /// Lays the keystream from `counter` on over the text.
+    pub fn apply(self, counter: u32, text: &mut [u8])
+        ensures { text.new ≡ gctr (keystream_of self.entry) counter text.old }
+    {
+        let mut count = counter;
+        // By the place of each block: after `chunks_mut` a proof knows the slice's length alone.
+        for at in (0..text.len()).step_by(16) {
+            xor_block(&mut text[at..], &self.block(count));
+            count = count.wrapping_add(1);
+        }
     }
-    let block = keystream(schedule, iv, count);
-    let at = whole * 16;
-    xor_block(&mut text[at..], &block);
-}
 
-/// The same from a borrowed text into the front of `out`.
-pub fn gctr_into(schedule: &Schedule, iv: Iv, counter: u32, text: &[u8], out: &mut [u8])
-    requires { length text.now ≤ length out.old }
-    ensures { out.new ≡ gctr_of (stream (scheduled schedule.now) (iv_bytes iv)) counter text.now ++ drop (length text.now) out.old }
-{
-    let mut count = counter;
-    let whole = text.len() / 16;
-    for i in 0..whole {
-        let block = keystream(schedule, iv, count);
-        xor_block_into(
-            &text[i * 16..i * 16 + 16],
-            &block,
-            &mut out[i * 16..i * 16 + 16],
-        );
-        count = count.wrapping_add(1);
+    /// The same from a borrowed text into the front of `out`.
+    pub fn apply_into(self, counter: u32, text: &[u8], out: &mut [u8])
+        requires { length text.now ≤ length out.old }
+        ensures { out.new ≡ gctr (keystream_of self.entry) counter text.now ++ drop (length text.now) out.old }
+    {
+        let front = &mut out[..text.len()];
+        front.copy_from_slice(text);
+        self.apply(counter, front);
     }
-    let block = keystream(schedule, iv, count);
-    let at = whole * 16;
-    let n = text.len();
-    xor_block_into(&text[at..n], &block, &mut out[at..n]);
 }
