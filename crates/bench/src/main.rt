@@ -7,7 +7,7 @@ use aead::counter::CounterNonces;
 use aead::key::{KeySize, SecureKey};
 use aead::source::NonceSource;
 use aes::schedule::Schedule;
-use ctr::gctr::gctr;
+use ctr::gctr::Keystream;
 use ctr::iv::Iv;
 use gcm::aes_gcm::AesGcm;
 use ghash::hash::ghash;
@@ -72,7 +72,11 @@ fn main(rt: HostRuntime) -> anyhow::Result<()> {
     let timed = env::args(&rt)?.count() > 1;
     measure(&rt, "ctr", timed, |text| {
         let schedule = Schedule::new(&KEY[0..16]);
-        gctr(&schedule, Iv { a: 0, b: 0, c: 0 }, 2, text);
+        let keys = Keystream {
+            schedule: &schedule,
+            iv: Iv { a: 0, b: 0, c: 0 },
+        };
+        keys.apply(2, text);
         Ok(last(text))
     })?;
     measure(&rt, "ghash", timed, |text| {

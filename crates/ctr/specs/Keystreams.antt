@@ -5,6 +5,14 @@ use Rattle.ctr.specs.Gctr.{stream}
 use Rattle.ctr.specs.Ivs.{iv_bytes}
 use Rattle.ctr.specs.declared.gctr.Keystream.{Keystream}
 
+-- its block cipher
+abbrev pub cipher_of : Keystream → List ℕ → List ℕ
+cipher_of k = scheduled k.schedule.now
+
+-- the bytes of its IV
+abbrev pub iv_of : Keystream → List ℕ
+iv_of k = iv_bytes k.iv
+
 -- its block of each counter
 abbrev pub keystream_of : Keystream → ℕ → List ℕ
-keystream_of k = stream (scheduled k.schedule.now) (iv_bytes k.iv)
+keystream_of k = stream (cipher_of k) (iv_of k)

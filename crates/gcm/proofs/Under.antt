@@ -1,8 +1,9 @@
--- Under a block cipher that is known block by block, and an IV that is known by its bytes.
+-- What is made under a schedule and an IV, where the schedule is known block by block to be a key's, and the IV by its bytes.
 use Rattle.std.proofs.Common.{◌≡◌, ℕ, List, ap, ◌∙◌}
+use Rattle.aes.specs.Aes.{aes}
 
-module _ {X : Type 0} (of : (List ℕ → List ℕ) → List ℕ → X) where
-  pub under : (f g : List ℕ → List ℕ) (n m : List ℕ) → ((x : List ℕ) → f x ≡ g x) → n ≡ m → of f n ≡ of g m
-  under f g n m e d =
-      let p : f ≡ g = λ j x. e x j in
-      ap (λ (h : List ℕ → List ℕ). of h n) p ∙ ap (of g) d
+pub under_key : {X : Type 0} {f : List ℕ → List ℕ} {b k v n : List ℕ} (of : (List ℕ → List ℕ) → List ℕ → X)
+    → ((x : List ℕ) → f x ≡ aes b x) → b ≡ k → v ≡ n → of f v ≡ of (aes k) n
+under_key {f = f} {b = b} {k = k} {v = v} of e h d =
+    let p : f ≡ aes k = (λ j x. e x j) ∙ ap aes h in
+    ap (λ (g : List ℕ → List ℕ). of g v) p ∙ ap (of (aes k)) d

@@ -1,10 +1,10 @@
-ghost use Rattle.std.specs.Prelude.{◌≡◌};
+ghost use Rattle.std.specs.Prelude.{◌≡◌, IfOk, IfErr};
 ghost use Rattle.aes.specs.Aes.{aes};
-ghost use Rattle.aead.specs.Seals.{Sealed, Opened, OpenedInto};
-ghost use Rattle.aes.specs.Schedules.{scheduled};
-ghost use Rattle.ctr.specs.Ivs.{iv_bytes};
-ghost use Rattle.gcm.specs.Gcm.{gcm as gcm_of};
 ghost use Rattle.aes.proofs.Lengths.{length-aes};
+ghost use Rattle.aead.specs.Seals.{Sealed, Unauthentic};
+ghost use Rattle.ctr.specs.Gctr.{gctr};
+ghost use Rattle.ctr.specs.Keystreams.{cipher_of, iv_of, keystream_of};
+ghost use Rattle.gcm.specs.Gcm.{gcm as gcm_of};
 ghost use Rattle.gcm.specs.Laws.{gcm_keeps, gcm_tags, gcm_one};
 
 use crate::tag::{same, tag as tag_of};
@@ -12,7 +12,7 @@ use aead::aead::Aead;
 use aead::key::SecureKey;
 use aead::nonce::Nonce;
 use aes::schedule::Schedule;
-use ctr::gctr::{gctr, gctr_into};
+use ctr::gctr::Keystream;
 use ctr::iv::Iv;
 use error::cipher::CipherError;
 
@@ -20,51 +20,15 @@ use error::cipher::CipherError;
 #[derive(Clone, Copy)]
 pub struct AesGcm;
 
-// Seals under a schedule.
-fn seal_under(schedule: &Schedule, iv: Iv, aad: &[u8], text: &mut [u8]) -> [u8; 16]
-    ensures { record { text = text.new; tag = result } ≡ gcm_of (scheduled schedule.now) (iv_bytes iv) aad.now text.old }
+// Whether the ciphertext with its AAD has this tag.
+fn check(keys: Keystream, aad: &[u8], text: &[u8], tag: &[u8; 16]) -> Result<(), CipherError>
+    ensures opens { IfOk result (λ _. gcm_of (cipher_of keys.entry) (iv_of keys.entry) aad.now (gctr (keystream_of keys.entry) 2 text.now) ≡ record { text = text.now; tag = tag.now }) }
+    ensures refuses { IfErr result (λ e. Unauthentic (gcm_of (cipher_of keys.entry) (iv_of keys.entry) aad.now) (record { text = text.now; tag = tag.now }) e) }
 {
-    gctr(schedule, iv, 2, text);
-    tag_of(schedule, iv, aad, text)
-}
-
-// Opens under a schedule, once the tag over the whole ciphertext is the same.
-fn open_under(
-    schedule: &Schedule,
-    iv: Iv,
-    aad: &[u8],
-    text: &mut [u8],
-    tag: &[u8; 16],
-) -> Result<(), CipherError>
-    ensures { Opened (gcm_of (scheduled schedule.now) (iv_bytes iv) aad.now) (record { text = text.old; tag = tag.now }) text.old result text.new }
-{
-    let real = tag_of(schedule, iv, aad, text);
+    let real = tag_of(keys, (aad, &[]), text);
     if !same(&real, tag) {
         return Err(CipherError::NotAuthentic);
     }
-    gctr(schedule, iv, 2, text);
-    Ok(())
-}
-
-// The same into other memory.
-fn open_into_under(
-    schedule: &Schedule,
-    iv: Iv,
-    aad: &[u8],
-    text: &[u8],
-    tag: &[u8; 16],
-    out: &mut [u8],
-) -> Result<(), CipherError>
-    ensures { OpenedInto (gcm_of (scheduled schedule.now) (iv_bytes iv) aad.now) (record { text = text.now; tag = tag.now }) out.old result out.new }
-{
-    if out.len() < text.len() {
-        return Err(CipherError::MemoryTooSmall);
-    }
-    let real = tag_of(schedule, iv, aad, text);
-    if !same(&real, tag) {
-        return Err(CipherError::NotAuthentic);
-    }
-    gctr_into(schedule, iv, 2, text, out);
     Ok(())
 }
 
@@ -78,9 +42,13 @@ impl Aead for AesGcm {
     ghost one = { λ s k n a t u e. gcm_one (aes k) (length-aes k) n a t u e };
 
     fn seal(&self, key: &SecureKey, nonce: Nonce, aad: &[u8], text: &mut [u8]) -> [u8; 16] {
-        let iv = Iv::from_bytes(&nonce.into_bytes());
         let schedule = Schedule::new(key.bytes());
-        seal_under(&schedule, iv, aad, text)
+        let keys = Keystream {
+            schedule: &schedule,
+            iv: Iv::from_bytes(&nonce.into_bytes()),
+        };
+        keys.apply(2, text);
+        tag_of(keys, (aad, &[]), text)
     }
 
     fn open(
@@ -92,7 +60,13 @@ impl Aead for AesGcm {
         tag: &[u8; 16],
     ) -> Result<(), CipherError> {
         let schedule = Schedule::new(key.bytes());
-        open_under(&schedule, Iv::from_bytes(nonce), aad, text, tag)
+        let keys = Keystream {
+            schedule: &schedule,
+            iv: Iv::from_bytes(nonce),
+        };
+        check(keys, aad, text, tag)?;
+        keys.apply(2, text);
+        Ok(())
     }
 
     fn open_into(
@@ -104,7 +78,16 @@ impl Aead for AesGcm {
         tag: &[u8; 16],
         out: &mut [u8],
     ) -> Result<(), CipherError> {
+        if out.len() < text.len() {
+            return Err(CipherError::MemoryTooSmall);
+        }
         let schedule = Schedule::new(key.bytes());
-        open_into_under(&schedule, Iv::from_bytes(nonce), aad, text, tag, out)
+        let keys = Keystream {
+            schedule: &schedule,
+            iv: Iv::from_bytes(nonce),
+        };
+        check(keys, aad, text, tag)?;
+        keys.apply_into(2, text, out);
+        Ok(())
     }
 }

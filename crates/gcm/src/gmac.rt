@@ -1,17 +1,18 @@
 ghost use Rattle.std.specs.Prelude.{◌≡◌, [], ◌++◌};
 ghost use Rattle.std.proofs.Math.Path.{refl};
 ghost use Rattle.aes.specs.Aes.{aes};
-ghost use Rattle.aead.specs.Seals.{Opened};
-ghost use Rattle.gcm.specs.Gcm.{tag as tag_of, gmac as gmac_of, gmac};
 ghost use Rattle.aes.proofs.Lengths.{length-aes};
+ghost use Rattle.aead.specs.Seals.{Opened, key_of};
+ghost use Rattle.gcm.specs.Gcm.{tag as tag_of, gmac as gmac_of, gmac};
 ghost use Rattle.gcm.specs.Laws.{length-tag};
 ghost use Rattle.gcm.specs.Macs.{gmac_one};
 
-use crate::tag::{same, tag_joined};
+use crate::tag::{same, tag as tag_of};
 use aead::aead::Aead;
 use aead::key::SecureKey;
 use aead::nonce::Nonce;
 use aes::schedule::Schedule;
+use ctr::gctr::Keystream;
 use ctr::iv::Iv;
 use error::cipher::CipherError;
 
@@ -19,22 +20,27 @@ use error::cipher::CipherError;
 #[derive(Clone, Copy)]
 pub struct Gmac;
 
-fn mac(key: &[u8], nonce: &[u8; 12], aad: &[u8], text: &[u8]) -> [u8; 16]
-    ensures { result ≡ tag_of (aes key.now) nonce.now (aad.now ++ text.now) [] }
+// The tag of the text with its AAD.
+fn mac(key: &SecureKey, nonce: &[u8; 12], aad: &[u8], text: &[u8]) -> [u8; 16]
+    ensures { result ≡ tag_of (aes (key_of key.now)) nonce.now (aad.now ++ text.now) [] }
 {
-    let schedule = Schedule::new(key);
-    tag_joined(&schedule, Iv::from_bytes(nonce), aad, text)
+    let schedule = Schedule::new(key.bytes());
+    let keys = Keystream {
+        schedule: &schedule,
+        iv: Iv::from_bytes(nonce),
+    };
+    tag_of(keys, (aad, text), &[])
 }
 
 // Whether the text with its AAD has this tag.
 fn check(
-    key: &[u8],
+    key: &SecureKey,
     nonce: &[u8; 12],
     aad: &[u8],
     text: &[u8],
     tag: &[u8; 16],
 ) -> Result<(), CipherError>
-    ensures { Opened (gmac_of (aes key.now) nonce.now aad.now) (record { text = text.now; tag = tag.now }) text.now result text.now }
+    ensures { Opened (gmac_of (aes (key_of key.now)) nonce.now aad.now) (record { text = text.now; tag = tag.now }) text.now result text.now }
 {
     let real = mac(key, nonce, aad, text);
     if !same(&real, tag) {
@@ -53,8 +59,7 @@ impl Aead for Gmac {
     ghost one = { λ s k n a t u e. gmac_one (aes k) n a t u e };
 
     fn seal(&self, key: &SecureKey, nonce: Nonce, aad: &[u8], text: &mut [u8]) -> [u8; 16] {
-        let bytes = nonce.into_bytes();
-        mac(key.bytes(), &bytes, aad, text)
+        mac(key, &nonce.into_bytes(), aad, text)
     }
 
     fn open(
@@ -65,7 +70,7 @@ impl Aead for Gmac {
         text: &mut [u8],
         tag: &[u8; 16],
     ) -> Result<(), CipherError> {
-        check(key.bytes(), nonce, aad, text, tag)
+        check(key, nonce, aad, text, tag)
     }
 
     fn open_into(
@@ -81,9 +86,7 @@ impl Aead for Gmac {
         if out.len() < n {
             return Err(CipherError::MemoryTooSmall);
         }
-        if let Err(e) = check(key.bytes(), nonce, aad, text, tag) {
-            return Err(e);
-        }
+        check(key, nonce, aad, text, tag)?;
         out[0..n].copy_from_slice(text);
         Ok(())
     }
