@@ -1,14 +1,16 @@
 -- Lists of nonces.
-use Rattle.std.proofs.Common.{◌≡◌, zero-add, ℕ, ◌+◌, ◌<◌, Bool, true, List, [], ◌++◌, length, get_or, take, nat_eq, Decides, sym, refl, ap, ◌∙◌, arith}
+use Rattle.std.proofs.Common.{◌≡◌, ◌≢◌, zero-add, ℕ, ◌+◌, ◌<◌, ◌≤◌, Bool, true, false, List, [], ◌∷◌, ◌++◌, length, get_or, take, drop, nat_eq, Err, Decides, sym, refl, ap, ◌∙◌, subst, arith, below_more}
 use Rattle.std.specs.Cmp.Lexicographic.{pointwise}
 use Rattle.std.specs.List.{enumerate_from, list_any}
 use Rattle.std.proofs.lemmas.Bool.Decides.{Decides-eqb}
-use Rattle.std.proofs.lemmas.List.{length-append, length-take, get_or-append-add, get_or-take, get_or_default}
+use Rattle.std.proofs.lemmas.Bool.{false≢true}
+use Rattle.std.proofs.lemmas.List.{length-append, length-take, get_or-append-add, get_or-take, get_or_default, take-append-drop, drop_all, drop_more}
 use Rattle.std.proofs.lemmas.List.Folds.{Any-from_list_any, list_any_at}
 use Rattle.std.proofs.lemmas.List.FromFn.{length-enumerate_from, get_or-enumerate_from}
 use Rattle.std.proofs.lemmas.Slice.Eq.{slice_eq-Decides}
-use Rattle.aead.specs.Draws.{Distinct}
-use Rattle.aead.specs.Recorded.{TwelveAt, Twice}
+use Rattle.error.specs.declared.cipher.CipherError.TheVariants.{NoncesExhausted}
+use Rattle.aead.specs.Draws.{Distinct, Twelve, Drawn}
+use Rattle.aead.specs.Recorded.{TwelveAt, Twice, twelve_all}
 
 -- what is left after a front is taken
 pub rest_distinct : (front rest : List (List ℕ)) → Distinct (front ++ rest) → Distinct rest
@@ -54,3 +56,30 @@ then_twice xs t =
 
 pub twice_decides : (xs : List (List ℕ)) → Decides (list_any (stands_before xs) (enumerate_from 0 xs)) (Twice xs)
 twice_decides xs = (twice_if xs, then_twice xs)
+
+-- no two of the places below n hold the same
+abbrev Apart : List (List ℕ) → ℕ → Type 0
+Apart xs n = (a b : ℕ) → a < b → b < n → get_or xs a [] ≢ get_or xs b []
+
+pub apart_more : (xs : List (List ℕ)) (j i : ℕ) → j ≤ i → Apart xs j → ((a : ℕ) → a < i → get_or xs a [] ≢ get_or xs j []) → Apart xs (j + 1)
+apart_more xs j i h p q a b l m =
+    below_more (λ (y : ℕ). a < y → get_or xs a [] ≢ get_or xs y []) j (λ y k g. p a y g k) (λ g. q a (omega arith)) b m l
+
+pub apart_none : (xs : List (List ℕ)) (j : ℕ) → length xs ≤ j → Apart xs j → Decides false (Twice xs)
+apart_none xs j h p = (
+  λ e. absurd (false≢true e),
+  λ t. let m = t.3 in absurd (p t.0 t.1 t.2 (omega arith) t.4),
+)
+
+-- what is left after the first n
+pub drop_distinct : (n : ℕ) (xs : List (List ℕ)) → Distinct xs → Distinct (drop n xs)
+drop_distinct n xs d = rest_distinct (take n xs) (drop n xs) (subst Distinct (sym (take-append-drop n xs)) d)
+
+pub drop_twelve : (n : ℕ) (xs : List (List ℕ)) → TwelveAt xs → Twelve (drop n xs)
+drop_twelve n xs h = twelve_all (drop n xs) (rest_twelve (take n xs) (drop n xs) (subst TwelveAt (sym (take-append-drop n xs)) h))
+
+pub drop_drawn : (n : ℕ) (xs : List (List ℕ)) (x : List ℕ) → n < length xs → x ≡ get_or xs n x → drop n xs ≡ x ∷ drop (n + 1) xs
+drop_drawn n xs x h e = drop_more xs n x h ∙ ap (λ y. y ∷ drop (n + 1) xs) (sym e)
+
+pub drop_exhausted : (n : ℕ) (xs : List (List ℕ)) → length xs ≤ n → Drawn (drop n xs) (Err NoncesExhausted) (drop n xs)
+drop_exhausted n xs h = (drop_all n xs h, refl, drop_all n xs h)

@@ -1,9 +1,20 @@
 -- GMAC: the tag of an empty ciphertext.
-use Rattle.std.specs.Prelude.{◌≡◌, ℕ, List, [], ◌++◌, ◌≢◌}
-use Rattle.std.proofs.Common.{sym, ◌∙◌}
+use Rattle.std.specs.Prelude.{◌≡◌, ℕ, ◌+◌, ◌*◌, ◌%◌, ◌^◌, List, [], ◌++◌, length, ◌≢◌, bit_xor}
+use Rattle.std.proofs.Common.{sym, ◌∙◌, arith}
 use Rattle.std.proofs.Math.Path.{ap}
+use Rattle.std.proofs.lemmas.List.{length-append}
+use Rattle.ghash.specs.Ghash.{gmul, ghash}
 use Rattle.aead.specs.Seals.{Sealed}
-use Rattle.gcm.specs.Gcm.{tag, gmac}
+use Rattle.gcm.specs.Gcm.{bits, hash, tag, gmac}
+
+-- the hash of AAD that comes in two parts, whose lengths are added with a wrap
+pub hash_both : (h s n l r : ℕ) (a t c : List ℕ) → s ≡ ghash h (ghash h 0 (a ++ t)) c → n ≡ (length a + length t) % 2 ^ 64 → l ≡ bits n * 2 ^ 64 + bits (length c)
+    → r ≡ gmul (bit_xor s l) h → r ≡ hash h (a ++ t) c
+unfolding bits hash
+hash_both h s n l r a t c es en el er =
+    let q : length (a ++ t) ≡ length a + length t = length-append a t in
+    let b : bits n ≡ bits (length (a ++ t)) = omega arith in
+    cc
 
 module _ (ciph : List ℕ → List ℕ) where
   pub gmac_is : (iv a c g : List ℕ) → tag ciph iv (a ++ c) [] ≡ g → gmac ciph iv a c ≡ record { text = c; tag = g }

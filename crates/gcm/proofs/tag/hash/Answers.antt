@@ -1,12 +1,12 @@
-use Rattle.std.proofs.Common.{◌≡◌, ◌+◌, ◌%◌, ◌^◌, ◌++◌, length, length-append, arith}
-use Rattle.gcm.specs.Gcm.{bits, hash}
+use Rattle.std.proofs.Common.{refl, ap, ◌∙◌}
+use Rattle.ghash.specs.Ghash.{ghash}
+use Rattle.gcm.specs.Macs.{hash_both}
 use Rattle.gcm.proofs.tag.hash.Goals as goal
 
 pub returns : goal.returns
-unfolding bits hash
 returns c =
-    let a = c.args.aad.0.now in
-    let t = c.args.aad.1.now in
-    let l : length (a ++ t) ≡ length a + length t = length-append a t in
-    let b : bits ((length a + length t) % 2 ^ 64) ≡ bits (length (a ++ t)) = omega arith in
-    cc
+    hash_both _ _ _ _ _ c.args.aad.0.now c.args.aad.1.now c.args.text.now
+    (c.ghash-sum.ensures ∙ ap (λ s. ghash c.args.h s c.args.text.now) c.ghash_joined.ensures)
+    refl
+    c.lengths.ensures
+    c.product.ensures.value
