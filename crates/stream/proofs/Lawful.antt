@@ -1,5 +1,5 @@
 -- From the course of a file to its law.
-use Rattle.std.proofs.Common.{◌≡◌, ℕ, ◌+◌, true, false, List, [], ◌∷◌, ◌++◌, length, Result, sym, ap, ◌∙◌, subst, arith}
+use Rattle.std.proofs.Common.{◌≡◌, ℕ, ◌+◌, true, false, List, [], ◌∷◌, ◌++◌, length, Result, sym, ap, ◌∙◌, subst, arith, rules}
 use Rattle.std.proofs.lemmas.List.{length-append, get_or_append_left}
 use Rattle.error.specs.declared.stream.StreamError.{StreamError}
 use Rattle.aead.specs.Draws.{Distinct, Twelve}
@@ -31,9 +31,9 @@ twelve_taken (lost n ∷ fs) rest (w, ws) = twelve_taken fs rest ws
 -- what a closed writer's sink holds
 closed_holds : (size : ℕ) (block : ℕ → List ℕ → List ℕ → List ℕ) (t : List ℕ) (ns : List (List ℕ)) (s : State) (q : Port)
     → is_closed s ≡ true → Holds size block t ns s q → Row size block ns t q.taken × (q.is_open ≡ false)
-closed_holds size block t ns fresh q e h = absurd (let z : ◌≡◌ {A = ℕ} 0 1 = cc in omega arith)
-closed_holds size block t ns (opened g i) q e h = absurd (let z : ◌≡◌ {A = ℕ} 0 1 = cc in omega arith)
-closed_holds size block t ns poisoned q e h = absurd (let z : ◌≡◌ {A = ℕ} 0 1 = cc in omega arith)
+closed_holds size block t ns fresh q e h = search rules
+closed_holds size block t ns (opened g i) q e h = search rules
+closed_holds size block t ns poisoned q e h = search rules
 closed_holds size block t ns closed q e h = h
 
 module _ (seal : List ℕ → List ℕ → List ℕ → Sealed) (prefix : List ℕ) (size : ℕ)

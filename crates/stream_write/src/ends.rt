@@ -77,6 +77,7 @@ impl AesGcmFileWrite {
             phase: _,
         } = self;
         let c = size.ciphertext() as usize;
+        // With `[..c]` a proof knows nothing of what a write leaves in a `Vec`.
         block[0..c].fill(0);
         block
     }

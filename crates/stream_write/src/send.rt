@@ -35,14 +35,9 @@ impl AesGcmFileWrite {
         }
         let i = blocks as u32;
         let aad = block_aad(&self.prefix, i)?;
-        send_block(
-            &mut self.block[0..held + OVERHEAD],
-            i,
-            &aad,
-            keyed,
-            sink,
-            nonces,
-        )?;
+        // With `[..n]` a proof knows nothing of what a write leaves in a `Vec`.
+        let block = &mut self.block[0..held + OVERHEAD];
+        send_block(block, i, &aad, keyed, sink, nonces)?;
         self.phase = Phase::Open(0, blocks + 1);
         Ok(())
     }

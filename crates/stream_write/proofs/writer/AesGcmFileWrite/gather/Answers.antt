@@ -33,16 +33,11 @@ ends_on size block x xs Closed b rest q z o e = search rules
 pub loop-rest-preserved : goal.loop-rest-preserved
 loop-rest-preserved g c =
     let w = c.in_ok-n.ensures.gathered in
-    let i = c.loop-rest.invariant in
-    let es = ap (λ s. s.bytes) i.1.0 in
-    let ep = ap vec_items i.1.1 in (
-      w.2,
-      kept_on c.args.self.now c.loop-rest.self c.gather_some.new.self i.1 c.gather_some.ensures.kept,
-      search (rules, step_on),
-    )
+    let es = ap (λ s. s.bytes) c.loop-rest.invariant.1.0 in
+    let ep = ap vec_items c.loop-rest.invariant.1.1 in
+    search (rules, kept_on, step_on)
 
 pub returns-clause-gathered : goal.returns-clause-gathered
 returns-clause-gathered g c =
-    let i = c.loop-rest.invariant in
     let z : length c.loop-rest.rest.now ≡ 0 = grind (arith, nat_tests) in
     search (rules, ends_on)
