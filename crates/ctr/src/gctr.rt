@@ -1,4 +1,4 @@
-ghost use Rattle.std.specs.Prelude.{◌≡◌, ℕ, ◌≤◌, List, ◌++◌, length, take, drop};
+ghost use Rattle.std.specs.Prelude.{◌≡◌, ◌≤◌, ◌++◌, length, take, drop};
 ghost use Rattle.aes.specs.Cipher.{xor_bytes};
 ghost use Rattle.ctr.specs.Gctr.{gctr};
 ghost use Rattle.ctr.specs.Keystreams.{keystream_of};

@@ -1,7 +1,7 @@
 ghost use Rattle.std.specs.Prelude.{◌≡◌, IfOk, IfErr};
 ghost use Rattle.aes.specs.Aes.{aes};
 ghost use Rattle.aes.proofs.Lengths.{length-aes};
-ghost use Rattle.aead.specs.Seals.{Sealed, Unauthentic};
+ghost use Rattle.aead.specs.Seals.{Unauthentic};
 ghost use Rattle.ctr.specs.Gctr.{gctr};
 ghost use Rattle.ctr.specs.Keystreams.{cipher_of, iv_of, keystream_of};
 ghost use Rattle.gcm.specs.Gcm.{gcm as gcm_of};
