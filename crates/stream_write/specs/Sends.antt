@@ -49,5 +49,5 @@ Sent left p block i (Ok _) rest q = (n : List ℕ) × (left ≡ n ∷ rest) × (
 Sent left p block i (Err e) rest q = Refused left p block i (origin e) rest q
 
 -- what stands between the places of nonce and tag
-abbrev pub text_in : List ℕ → List ℕ
-text_in memory = take (length memory - 28) (drop 12 memory)
+abbrev pub inner : List ℕ → List ℕ
+inner memory = take (length memory - 28) (drop 12 memory)
