@@ -12,6 +12,7 @@ use error::stream::StreamError;
 use storage::sink::FileWrite;
 
 // Sink and nonce source stay two parameters, since of a struct of two `&mut`s each contract would have to say that it keeps them.
+// `kept` stands in each contract, since a type says what always holds, and not what a call leaves as it was.
 impl AesGcmFileWrite {
     // Sends what is gathered, also nothing where no block was sent yet, and closes the sink.
     fn finish<K: FileWrite, A: Aead, N: NonceSource>(
@@ -49,6 +50,7 @@ impl AesGcmFileWrite {
         ensures kept { Kept self.old self.new }
         ensures called { Called (size_of self.old) (block_by (sealing A.sealed keyed.now) self.old) call.entry (state_of self.old) (N.left nonces.old) (K.port sink.old) result (state_of self.new) (N.left nonces.new) (K.port sink.new) }
     {
+        // What a writer is and what is asked of it, each pair in an arm: no step is handed in.
         match (self.phase, call) {
             (Phase::Closed, _) => Err(StreamError::WriterClosed),
             (Phase::Poisoned, _) => Err(StreamError::WriterPoisoned),
