@@ -1,5 +1,5 @@
-//! The account of one task from beginning to end that `ags1` prints when it is asked nothing: an encrypted cargo list, planned,
-//! written, read, damaged and cut off, with what the library answers each time.
+//! An account of one task from beginning to end: an encrypted cargo list, planned, sealed, stored, written, read, damaged and cut off, with what
+//! the library answers each time. Asked nothing, `ags1` prints the plan, the sealed entry and the full storage.
 
 pub mod every;
 pub mod file;
@@ -13,6 +13,7 @@ pub mod sealed;
 pub fn account(rt: &HostRuntime) -> anyhow::Result<()> {
     plan::plan(rt)?;
     sealed::entry(rt)?;
+    full::full(rt)?;
     list::list(rt)?;
     every::every(rt)
 }

@@ -57,6 +57,7 @@ then_twice xs t =
 pub twice_decides : (xs : List (List ℕ)) → Decides (list_any (stands_before xs) (enumerate_from 0 xs)) (Twice xs)
 twice_decides xs = (twice_if xs, then_twice xs)
 
+-- What follows holds of any list from a place on; it is stated for readers, and no proof rests on it.
 -- no two of the places below n hold the same
 abbrev Apart : List (List ℕ) → ℕ → Type 0
 Apart xs n = (a b : ℕ) → a < b → b < n → get_or xs a [] ≢ get_or xs b []

@@ -1,4 +1,4 @@
-ghost use Rattle.std.specs.Prelude.{◌≡◌, ℕ, ◌+◌, ◌-◌, ◌*◌, ◌/◌, ◌<◌, ◌≤◌, List, length, take, slice_index, slice_index_or};
+ghost use Rattle.std.specs.Prelude.{◌≡◌, ℕ, ◌+◌, ◌-◌, ◌*◌, ◌/◌, ◌<◌, ◌≤◌, List, length, take, slice_index_or};
 ghost use Rattle.aes.specs.KeyExpansion.{sub_word, rot_word, next_word, expand, key_length, key_word, key_words, expansion, round_key};
 ghost use Rattle.aes.specs.Aes.{aes};
 ghost use Rattle.aes.specs.Blocks.{bytes_of, zero_block};

@@ -34,11 +34,11 @@ fn fill(text: &mut [u8], seed: u8) {
 
 /// The last eight bytes that a kernel left, as a number to compare.
 fn last(bytes: &[u8]) -> u64 {
-    let mut n = 0u64;
-    for b in bytes.iter().rev().take(8) {
-        n = n.wrapping_mul(256).wrapping_add(u64::from(*b));
-    }
-    n
+    bytes
+        .iter()
+        .rev()
+        .take(8)
+        .fold(0, |n, b| n << 8 | u64::from(*b))
 }
 
 /// Runs a kernel on the sixteen texts; prints what came out or how long it took.

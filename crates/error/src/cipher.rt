@@ -51,7 +51,8 @@ impl Reported for CipherError {
     }
 }
 
-// Written out, since a derive promises neither the text nor which variant an error becomes.
+// `Display` and `From` are written out, since a derive promises neither the text nor which variant an error becomes; and `?` needs an impl for
+// each of the allocator's two errors, since Rust admits none for both.
 impl fmt::Display for CipherError {
     ghost output = { λ e. Some (report_text (cipher_report e)) };
 

@@ -83,7 +83,8 @@ impl Reported for StreamError {
     }
 }
 
-// Written out, since a derive promises neither the text nor which variant an error becomes.
+// `Display` and `From` are written out, since a derive promises neither the text nor which variant an error becomes; and `?` needs an impl for
+// each of the allocator's two errors, since Rust admits none for both.
 impl fmt::Display for StreamError {
     ghost output = { λ e. Some (report_text (stream_report e)) };
 

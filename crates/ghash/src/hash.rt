@@ -37,7 +37,7 @@ pub fn ghash(h: u128, y: u128, s: &[u8]) -> u128
     sum
 }
 
-/// GHASH of a followed by t, as one string.
+/// GHASH of a followed by t, as one string. Not `ghash` of one after the other, since they may meet within a block.
 pub fn ghash_joined(h: u128, y: u128, a: &[u8], t: &[u8]) -> u128
     ensures { result ≡ ghash_of h y (a.now ++ t.now) }
 {

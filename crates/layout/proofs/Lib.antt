@@ -1,3 +1,2 @@
 mod Covering
-pub mod Fronts
 pub mod Laws

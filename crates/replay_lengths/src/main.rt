@@ -57,7 +57,8 @@ pub enum ListError {
     OutOfMemory,
 }
 
-// Written out, since a derive promises neither the text nor which variant an error becomes.
+// `Display` and `From` are written out, since a derive promises neither the text nor which variant an error becomes; and `?` needs an impl for
+// each of the allocator's two errors, since Rust admits none for both.
 impl fmt::Display for ListError {
     fn fmt<W: fmt::Write>(&self, f: &mut fmt::Formatter<W>) -> fmt::Result {
         match self {

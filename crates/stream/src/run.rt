@@ -1,4 +1,4 @@
-ghost use Rattle.std.specs.Prelude.{◌≡◌, ℕ, List, [], length, IfOk, vec_len, MatchResult};
+ghost use Rattle.std.specs.Prelude.{◌≡◌, [], length, IfOk, vec_len, MatchResult};
 ghost use Rattle.aead.specs.Seals.{sealing};
 ghost use Rattle.stream_write.specs.Calls.{state_of, size_of, Kept};
 ghost use Rattle.stream_write.specs.Writers.{fresh};

@@ -1,4 +1,4 @@
-ghost use Rattle.std.specs.Prelude.{◌≡◌, ◌≤◌, take, drop};
+ghost use Rattle.std.specs.Prelude.{◌≤◌, take, drop};
 ghost use Rattle.aead.specs.Seals.{sealing};
 ghost use Rattle.stream_write.specs.Calls.{state_of, size_of, block_by, Kept, Called};
 ghost use Rattle.stream_write.specs.Runs.{ok, last_run, Ended, Wrote, Closes};

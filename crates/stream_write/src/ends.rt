@@ -51,6 +51,7 @@ impl AesGcmFileWrite {
     pub fn new(block_size: u32, prefix: Vec<u8>, block: Vec<u8>) -> Result<AesGcmFileWrite, NotMade>
         ensures { Made block_size prefix block result }
     {
+        // A `match`, since both arms take prefix and buffer.
         match size_for(block_size, &prefix, &block) {
             Ok(size) => Ok(AesGcmFileWrite {
                 block,

@@ -17,7 +17,7 @@ impl AesGcmFileWrite {
         ensures kept { Kept self.old self.new }
         ensures begun { (l : List (List ℕ)) → Outcome (begin_run (size_of self.old) l (K.port sink.old)) result (state_of self.new) l (K.port sink.new) }
     {
-        // A refusal leaves it so.
+        // Poisoned, until the header is taken.
         self.phase = Phase::Poisoned;
         sink.write(&self.size.header())
             .map_err(StreamError::HeaderNotTaken)?;

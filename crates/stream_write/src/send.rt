@@ -1,4 +1,4 @@
-ghost use Rattle.std.specs.Prelude.{◌≡◌, ◌≤◌, take, drop};
+ghost use Rattle.std.specs.Prelude.{◌≤◌, take, drop};
 ghost use Rattle.aead.specs.Seals.{sealing};
 ghost use Rattle.stream_write.specs.Calls.{state_of, size_of, block_by, Kept};
 ghost use Rattle.stream_write.specs.Runs.{send_run, Outcome};
@@ -28,7 +28,7 @@ impl AesGcmFileWrite {
         ensures kept { Kept self.old self.new }
         ensures sent { Outcome (send_run (block_by (sealing A.sealed keyed.now) self.old) (take held (drop 12 self.old.block.items)) blocks (N.left nonces.old) (K.port sink.old)) result (state_of self.new) (N.left nonces.new) (K.port sink.new) }
     {
-        // What is refused before the block is sent leaves it so.
+        // Poisoned, until the block is taken.
         self.phase = Phase::Poisoned;
         if blocks >= MAX_BLOCKS {
             return Err(StreamError::TooManyBlocks);

@@ -16,9 +16,9 @@ pub(crate) fn check_expansion(key: &[u8], keys: &[u8]) -> anyhow::Result<()> {
     let schedule = Schedule::new(key);
     let (keys, _) = keys.as_chunks::<16>();
     for (r, key) in keys.iter().enumerate() {
-        let Some(round_key) = schedule.round_key(r) else {
-            return Err(anyhow!("too few round keys"));
-        };
+        let round_key = schedule
+            .round_key(r)
+            .ok_or_else(|| anyhow!("too few round keys"))?;
         expect(round_key.to_bytes() == *key, "a round key differs")?;
     }
     expect(

@@ -99,13 +99,7 @@ fn opens<A: Aead>(heap: Global, cipher: &A, case: &Case) -> anyhow::Result<bool>
 
 /// Flips one bit of a byte, and says whether there is one.
 fn flip(bytes: &mut [u8], at: usize) -> bool {
-    match bytes.get_mut(at) {
-        Some(b) => {
-            *b ^= 1;
-            true
-        }
-        None => false,
-    }
+    bytes.get_mut(at).map(|b| *b ^= 1).is_some()
 }
 
 /// One bit of a part flipped. False where the part has no such byte.
