@@ -1,5 +1,6 @@
 //! An account of one task from beginning to end: an encrypted cargo list, planned, sealed, stored, written, read, damaged and cut off, with what
 //! the library answers each time. Asked nothing, `ags1` prints the plan, the sealed entry and the full storage.
+#![tactic(auto)]
 
 pub mod every;
 pub mod file;

@@ -12,6 +12,7 @@ pub struct Iv {
     pub c: u32,
 }
 
+// Named as the block's, and no `From`.
 impl Iv {
     /// The IV of these bytes.
     pub fn from_bytes(bytes: &[u8; 12]) -> Iv
