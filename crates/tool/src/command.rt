@@ -1,4 +1,4 @@
-ghost use Rattle.std.specs.Prelude.{Some};
+ghost use Rattle.std.specs.Prelude.{◌≡◌, Some};
 ghost use Rattle.tool.specs.Texts.{usage_message};
 
 use std::error::Error;
@@ -26,11 +26,12 @@ pub enum UsageError {
     FileLength,
 }
 
-impl fmt::Display for UsageError {
-    ghost output = { λ x. Some (usage_message x) };
-
-    fn fmt<W: fmt::Write>(&self, f: &mut fmt::Formatter<W>) -> fmt::Result {
-        f.write_str(match self {
+impl UsageError {
+    /// What the user is told.
+    pub fn message(self) -> &'static str
+        ensures { result.now ≡ usage_message self }
+    {
+        match self {
             UsageError::UnknownCommand => "no such command; 'ags1 help' says what there is",
             UsageError::TooFewArguments => "too few arguments; 'ags1 help' says what there is",
             UsageError::TooManyArguments => "too many arguments; 'ags1 help' says what there is",
@@ -40,7 +41,15 @@ impl fmt::Display for UsageError {
             UsageError::FileLength => {
                 "FILE_LENGTH must be a whole number from 0 to 18446744073709551615"
             }
-        })
+        }
+    }
+}
+
+impl fmt::Display for UsageError {
+    ghost output = { λ x. Some (usage_message x) };
+
+    fn fmt<W: fmt::Write>(&self, f: &mut fmt::Formatter<W>) -> fmt::Result {
+        f.write_str(self.message())
     }
 }
 
