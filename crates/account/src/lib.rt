@@ -10,11 +10,10 @@ pub mod plan;
 pub mod print;
 pub mod sealed;
 
-/// Prints the account.
+/// Prints the account, but for the full storage, which is `full`.
 pub fn account(rt: &HostRuntime) -> anyhow::Result<()> {
     plan::plan(rt)?;
     sealed::entry(rt)?;
-    full::full(rt)?;
     list::list(rt)?;
     every::every(rt)
 }
