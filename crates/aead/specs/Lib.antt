@@ -4,3 +4,4 @@ pub mod Keys
 pub mod Recorded
 pub mod Seals
 pub mod Counts
+pub mod Records

@@ -1,32 +1,33 @@
-ghost use Rattle.std.specs.Prelude.{◌≡◌, Decides, MatchResult};
-ghost use Rattle.std.specs.Vec.Iter.{into_iter_items};
+ghost use Rattle.std.specs.Prelude.{◌≡◌, drop, Decides, MatchResult};
 ghost use Rattle.aead.specs.Draws.{Distinct};
-ghost use Rattle.aead.specs.Recorded.{TwelveAt, Twice, Unrecorded, twelve_all};
+ghost use Rattle.aead.specs.Recorded.{TwelveAt, Twice, Unrecorded};
+ghost use Rattle.aead.specs.Records.{drop_distinct, drop_twelve};
 
 use crate::nonce::Nonce;
 use crate::source::NonceSource;
 use error::cipher::CipherError;
 use std::alloc::Global;
-use std::vec::IntoIter;
 
-/// The nonces of a recorded list, in its order.
+/// The nonces of a recorded list, in its order. A place beside the list and no iterator over it: of an iterator's clone a proof knows only the length, so
+/// that none would tell a draw that stays from one that goes on.
 #[derive(Drop)]
 pub struct RecordedNonces {
-    nonces: IntoIter<[u8; 12]>,
-    ghost different: { Distinct (into_iter_items nonces) },
-    ghost twelve: { TwelveAt (into_iter_items nonces) },
+    nonces: Vec<[u8; 12]>,
+    next: usize,
+    ghost different: { Distinct nonces.items },
+    ghost twelve: { TwelveAt nonces.items },
 }
 
 impl RecordedNonces {
     /// The nonces of that list: refused where some nonce stands twice, and then where there is no memory.
     pub fn new(heap: Global, nonces: &[[u8; 12]]) -> Result<RecordedNonces, CipherError>
-        ensures { MatchResult result (λ s. Distinct nonces.now × (into_iter_items s.nonces ≡ nonces.now)) (λ e. Unrecorded nonces.now e) }
+        ensures { MatchResult result (λ s. Distinct nonces.now × (drop s.next s.nonces.items ≡ nonces.now)) (λ e. Unrecorded nonces.now e) }
     {
         if any_twice(nonces) {
             return Err(CipherError::Duplicate);
         }
-        let nonces = Vec::from_slice(heap, nonces)?.into_iter();
-        Ok(RecordedNonces { nonces })
+        let nonces = Vec::from_slice(heap, nonces)?;
+        Ok(RecordedNonces { nonces, next: 0 })
     }
 }
 
@@ -34,21 +35,30 @@ impl RecordedNonces {
 fn any_twice(nonces: &[[u8; 12]]) -> bool
     ensures { Decides result (Twice nonces.now) }
 {
-    nonces
-        .iter()
-        .enumerate()
-        .any(|(j, nonce)| nonces[..j].contains(nonce))
+    // By index: `contains` on the places before takes half as long again.
+    for j in 0..nonces.len() {
+        for i in 0..j {
+            if nonces[i] == nonces[j] {
+                return true;
+            }
+        }
+    }
+    false
 }
 
 impl NonceSource for RecordedNonces {
-    ghost left = { λ s. into_iter_items s.nonces };
+    ghost left = { λ s. drop s.next s.nonces.items };
 
-    ghost different = { λ s. s.different };
+    ghost different = { λ s. drop_distinct s.next s.nonces.items s.different };
 
-    ghost twelve = { λ s. twelve_all (into_iter_items s.nonces) s.twelve };
+    ghost twelve = { λ s. drop_twelve s.next s.nonces.items s.twelve };
 
     fn draw(&mut self) -> Result<Nonce, CipherError> {
-        let bytes = self.nonces.next().ok_or(CipherError::NoncesExhausted)?;
+        let bytes = *self
+            .nonces
+            .get(self.next)
+            .ok_or(CipherError::NoncesExhausted)?;
+        self.next += 1;
         Ok(Nonce { bytes })
     }
 }
