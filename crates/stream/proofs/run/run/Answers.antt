@@ -26,6 +26,11 @@ loop-next-preserved g c =
     let ep = ap vec_items c.loop-next.invariant.kept.1 in
     search (rules, kept_on, closed_push, course_push)
 
+pub returns-clause-course : goal.returns-clause-course
+returns-clause-course g c = λ t ns h.
+    let e : take c.loop-next.next-index c.args.calls.now ≡ c.args.calls.now = take_all c.loop-next.next-index c.args.calls.now (omega arith) in
+    rw e at c.loop-next.invariant.course t ns h
+
 pub returns-clause-law : goal.returns-clause-law
 returns-clause-law g c = λ f z.
     let i = c.loop-next.invariant in
@@ -37,4 +42,4 @@ returns-clause-law g c = λ f z.
     lawful (g.A.Aead.sealed a k) (vec_items w.prefix) (size_of w) (g.met.A.Aead.keeps a k) (g.met.A.Aead.tags a k) (g.met.A.Aead.one a k) (w.size.some, w.size.most)
     (g.N.NonceSource.left c.args.nonces.now) c.args.calls.now (vec_items c.loop-next.replies) (state_of c.loop-next.writer) (g.N.NonceSource.left c.loop-next.nonces) (g.K.FileWrite.port c.loop-next.sink)
     (g.met.N.NonceSource.different c.args.nonces.now) (g.met.N.NonceSource.twelve c.args.nonces.now)
-    (rw (f, e) at i.shut) (rw e at i.course h)
+    (rw (f, e) at i.shut) (rw e at i.course [] [] h)
