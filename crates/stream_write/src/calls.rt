@@ -27,7 +27,8 @@ impl AesGcmFileWrite {
         ensures kept { Kept self.old self.new }
         ensures ended { Ended (last_run (block_by (sealing A.sealed keyed.now) self.old) (ok (take held (drop 12 self.old.block.items)) blocks (N.left nonces.old) (K.port sink.old))) result (state_of self.new) (N.left nonces.new) (K.port sink.new) }
     {
-        if held > 0 || blocks == 0 {
+        let due = held > 0 || blocks == 0;
+        if due {
             self.send(held, blocks, keyed, sink, nonces)?;
         }
         sink.close();
