@@ -64,7 +64,7 @@ impl Aead for AesGcm {
             schedule: &schedule,
             iv: Iv::from_bytes(nonce),
         };
-        check(keys, aad, text, tag)?;
+        check(keys, aad, text, tag)?; // while the text is the ciphertext
         keys.apply(2, text);
         Ok(())
     }

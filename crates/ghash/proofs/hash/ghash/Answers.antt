@@ -1,5 +1,6 @@
 use Rattle.std.proofs.Common.{◌≡◌, ◌≢◌, ℕ, ◌+◌, ◌*◌, ◌/◌, List, [], length, get_or, drop, refl, sym, ap, ◌∙◌, append-nil, arith}
 use Rattle.std.proofs.lemmas.Bool.{eqb-true, eqb-false}
+use Rattle.std.proofs.Math.Seq.{take-length}
 use Rattle.ghash.specs.Ghash.{block_of, Y, ghash}
 use Rattle.ghash.proofs.Blocks.{chunk_block}
 use Rattle.ghash.proofs.Joins.{next_Y}
@@ -26,7 +27,7 @@ returns-then-not-is_empty c =
     let some : length c.as_chunks.result.1.now ≢ 0 = eqb-false _ _ (sym c.is_empty.ensures ∙ c.if-not-is_empty.true) in
     let at : length c.args.s.now / 16 * 16 ≡ i * 16 = omega arith in
     let e : c.load_padded.result ≡ block_of (drop (i * 16) c.args.s.now) =
-    c.load_padded.ensures ∙ ap block_of (append-nil _ ∙ c.as_chunks.ensures.back ∙ ap (λ (n : ℕ). drop n c.args.s.now) at) in
+    c.load_padded.ensures ∙ ap block_of (simp (append-nil, take-length) (c.as_chunks.ensures.back ∙ ap (λ (n : ℕ). drop n c.args.s.now) at)) in
     next_Y c.args.h c.args.y c.args.s.now i _ c.loop-block.sum c.load_padded.result c.product-sum-then-not-is_empty.result (omega arith)
     c.loop-block.invariant e c.product-sum-then-not-is_empty.ensures.value
 

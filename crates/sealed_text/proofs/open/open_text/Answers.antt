@@ -1,9 +1,20 @@
-use Rattle.std.proofs.Common.{◌≡◌, ℕ, Ok, Err, Result, sym, subst, rules}
+use Rattle.std.proofs.Common.{◌≡◌, ℕ, ◌≤◌, List, length, Ok, Err, Result, sym, ap, subst, rules}
 use Rattle.error.specs.declared.cipher.CipherError.{CipherError}
-use Rattle.aead.specs.Seals.{key_of}
+use Rattle.aead.specs.Seals.{Sealed, OpenedInto, key_of}
+use Rattle.sealed_text.specs.Frame.{nonce_in}
+use Rattle.sealed_text.proofs.Frames.{parts_of}
 use Rattle.sealed_text.specs.Opening.{TextOpened}
 use Rattle.sealed_text.proofs.Opens.{split_is, text_opens, text_refuses, sealed_opens}
 use Rattle.sealed_text.proofs.open.open_text.Goals as goal
+
+-- the parts are those that the cipher was handed, whichever way they were split off
+opens_by : (f : List ℕ → List ℕ → List ℕ → Sealed) (a s out after n : List ℕ) (p : Sealed) (m : ℕ) → OpenedInto (f n a) p out (Ok tt) after → p ≡ parts_of s → m ≡ length p.text → 28 ≤ length s
+    → n ≡ nonce_in s → TextOpened f a s out (Ok m) after
+opens_by f a s out after n p m o q l h e = rw l (text_opens f a s out after n p h e q o)
+
+refuses_by : (f : List ℕ → List ℕ → List ℕ → Sealed) (a s out after n : List ℕ) (p : Sealed) (r : CipherError) → ((n a t : List ℕ) → length (f n a t).tag ≡ 16)
+    → OpenedInto (f n a) p out (Err r) after → p ≡ parts_of s → 28 ≤ length s → n ≡ nonce_in s → TextOpened f a s out (Err r) after
+refuses_by f a s out after n p r tags o q h e = text_refuses f a s out after n p h e q tags r o
 
 pub returns-in_err-open_into : goal.returns-in_err-open_into
 returns-in_err-open_into g c =
@@ -16,7 +27,9 @@ returns-in_err-open_into g c =
     let e = c.in_err-open_into.field-0.0 in
     let r : c.from_residual-in_err-open_into.result ≡ Err e = search rules in
     let p = split_is s c.in_ok-nonce.rest.now c.in_ok-text.text.now c.in_ok-text.tag.now (search rules) (search rules) (search rules) (search rules) (search rules) in
-    let u = text_refuses f a s out c.open_into.new.out c.in_ok-nonce.nonce.now _ (search rules) (search rules) p (law.tags c.args.keyed.now.cipher.now k) e c.in_err-open_into.ensures in
+    let pt = ap (λ (y : Sealed). y.text) p in
+    let pg = ap (λ (y : Sealed). y.tag) p in
+    let u = refuses_by f a s out c.open_into.new.out c.in_ok-nonce.nonce.now _ e (law.tags c.args.keyed.now.cipher.now k) c.in_err-open_into.ensures (cc) (search rules) (search rules) in
     let t = subst (λ (x : Result ℕ CipherError). TextOpened f a s out x c.open_into.new.out) (sym r) u in
     record {
       answer = t;
@@ -32,7 +45,9 @@ returns g c =
     let out = c.args.out.now in
     let law = g.met.A.Aead in
     let p = split_is s c.in_ok-nonce.rest.now c.in_ok-text.text.now c.in_ok-text.tag.now (search rules) (search rules) (search rules) (search rules) (search rules) in
-    let t = text_opens f a s out c.open_into.new.out c.in_ok-nonce.nonce.now _ (search rules) (search rules) p c.in_ok-open_into.ensures in
+    let pt = ap (λ (y : Sealed). y.text) p in
+    let pg = ap (λ (y : Sealed). y.tag) p in
+    let t = opens_by f a s out c.open_into.new.out c.in_ok-nonce.nonce.now _ (length c.in_ok-text.text.now) c.in_ok-open_into.ensures (cc) (cc) (search rules) (search rules) in
     record {
       answer = t;
       back = sealed_opens f a s out c.open_into.new.out (law.tags c.args.keyed.now.cipher.now k) (law.keeps c.args.keyed.now.cipher.now k) (law.one c.args.keyed.now.cipher.now k) (Ok _) t;
