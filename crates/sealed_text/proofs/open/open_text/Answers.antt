@@ -47,8 +47,9 @@ returns g c =
     let p = split_is s c.in_ok-nonce.rest.now c.in_ok-text.text.now c.in_ok-text.tag.now (search rules) (search rules) (search rules) (search rules) (search rules) in
     let pt = ap (λ (y : Sealed). y.text) p in
     let pg = ap (λ (y : Sealed). y.tag) p in
-    let t = opens_by f a s out c.open_into.new.out c.in_ok-nonce.nonce.now _ (length c.in_ok-text.text.now) c.in_ok-open_into.ensures (cc) (cc) (search rules) (search rules) in
+    let t : (m : ℕ) → m ≡ length c.in_ok-text.text.now → TextOpened f a s out (Ok m) c.open_into.new.out =
+    λ m w. opens_by f a s out c.open_into.new.out c.in_ok-nonce.nonce.now _ m c.in_ok-open_into.ensures (cc) (cc) (search rules) (search rules) in
     record {
-      answer = t;
-      back = sealed_opens f a s out c.open_into.new.out (law.tags c.args.keyed.now.cipher.now k) (law.keeps c.args.keyed.now.cipher.now k) (law.one c.args.keyed.now.cipher.now k) (Ok _) t;
+      answer = t _ (search rules);
+      back = sealed_opens f a s out c.open_into.new.out (law.tags c.args.keyed.now.cipher.now k) (law.keeps c.args.keyed.now.cipher.now k) (law.one c.args.keyed.now.cipher.now k) (Ok _) (t _ (search rules));
     }
