@@ -8,8 +8,8 @@ use crate::source::NonceSource;
 use error::cipher::CipherError;
 use std::alloc::Global;
 
-/// The nonces of a recorded list, in its order. A place beside the list and no iterator over it: of an iterator's clone a proof knows only the length, so
-/// that none would tell a draw that stays from one that goes on.
+// A place beside the list and no owning iterator: of a clone of one std promises the length alone.
+/// The nonces of a recorded list, in its order.
 #[derive(Drop)]
 pub struct RecordedNonces {
     nonces: Vec<[u8; 12]>,

@@ -36,20 +36,22 @@ split_is s rest t g e l p q m =
     let y : g ≡ drop (length s - 16) s = q ∙ rw (k, e) (drop-drop (length s - 16 - 12) 12 s ∙ ap (λ (j : ℕ). drop j s) (omega arith)) in
     rw (x, y) refl
 
-module _ (f : List ℕ → List ℕ → List ℕ → Sealed) (a s out after n : List ℕ) (p : Sealed) (h : 28 ≤ length s) (e : n ≡ nonce_in s) (q : p ≡ parts_of s) where
-  text_length : length p.text ≡ length s - 28
-  text_length = ap (λ (x : Sealed). length x.text) q ∙ between_length s h
+-- the cipher's answer comes first: it says which parts it was handed, whichever way they were split off
+module _ (f : List ℕ → List ℕ → List ℕ → Sealed) (a s out after n : List ℕ) (p : Sealed) where
+  text_length : p ≡ parts_of s → 28 ≤ length s → length p.text ≡ length s - 28
+  text_length q h = ap (λ (x : Sealed). length x.text) q ∙ between_length s h
 
-  pub text_opens : OpenedInto (f n a) p out (Ok tt) after → TextOpened f a s out (Ok (length p.text)) after
-  text_opens o =
-      let l = text_length in
+  pub text_opens : (k : ℕ) → OpenedInto (f n a) p out (Ok tt) after → p ≡ parts_of s → k ≡ length p.text → 28 ≤ length s → n ≡ nonce_in s → TextOpened f a s out (Ok k) after
+  text_opens k o q d h e =
+      let l = text_length q h in
       let m = o.0 in
       let x : f (nonce_in s) a (take (length p.text) after) ≡ parts_of s = subst (λ (y : List ℕ). f y a (take (length p.text) after) ≡ parts_of s) e (o.1 ∙ q) in
-      (not_refused (length s) (length out) h (omega arith), l, part_seals f a s (take (length p.text) after) h x, o.2)
+      rw d (not_refused (length s) (length out) h (omega arith), l, part_seals f a s (take (length p.text) after) h x, o.2)
 
-  pub text_refuses : ((n a t : List ℕ) → length (f n a t).tag ≡ 16) → (r : CipherError) → OpenedInto (f n a) p out (Err r) after → TextOpened f a s out (Err r) after
-  text_refuses tags r o =
-      let l = text_length in (
+  pub text_refuses : (r : CipherError) → ((n a t : List ℕ) → length (f n a t).tag ≡ 16) → OpenedInto (f n a) p out (Err r) after → p ≡ parts_of s → 28 ≤ length s → n ≡ nonce_in s
+      → TextOpened f a s out (Err r) after
+  text_refuses r tags o q h e =
+      let l = text_length q h in (
         elim o.0 [
           | inl x ↦ let k = x.0 in inl (memory_refused (length s) (length out) h (omega arith) ∙ ap Some (sym x.1))
           | inr x ↦ let k = x.0 in inr (

@@ -1,20 +1,9 @@
-use Rattle.std.proofs.Common.{◌≡◌, ℕ, ◌≤◌, List, length, Ok, Err, Result, sym, ap, subst, rules}
+use Rattle.std.proofs.Common.{◌≡◌, ℕ, length, Ok, Err, Result, sym, ap, subst, rules}
 use Rattle.error.specs.declared.cipher.CipherError.{CipherError}
-use Rattle.aead.specs.Seals.{Sealed, OpenedInto, key_of}
-use Rattle.sealed_text.specs.Frame.{nonce_in}
-use Rattle.sealed_text.proofs.Frames.{parts_of}
+use Rattle.aead.specs.Seals.{Sealed, key_of}
 use Rattle.sealed_text.specs.Opening.{TextOpened}
 use Rattle.sealed_text.proofs.Opens.{split_is, text_opens, text_refuses, sealed_opens}
 use Rattle.sealed_text.proofs.open.open_text.Goals as goal
-
--- the parts are those that the cipher was handed, whichever way they were split off
-opens_by : (f : List ℕ → List ℕ → List ℕ → Sealed) (a s out after n : List ℕ) (p : Sealed) (m : ℕ) → OpenedInto (f n a) p out (Ok tt) after → p ≡ parts_of s → m ≡ length p.text → 28 ≤ length s
-    → n ≡ nonce_in s → TextOpened f a s out (Ok m) after
-opens_by f a s out after n p m o q l h e = rw l (text_opens f a s out after n p h e q o)
-
-refuses_by : (f : List ℕ → List ℕ → List ℕ → Sealed) (a s out after n : List ℕ) (p : Sealed) (r : CipherError) → ((n a t : List ℕ) → length (f n a t).tag ≡ 16)
-    → OpenedInto (f n a) p out (Err r) after → p ≡ parts_of s → 28 ≤ length s → n ≡ nonce_in s → TextOpened f a s out (Err r) after
-refuses_by f a s out after n p r tags o q h e = text_refuses f a s out after n p h e q tags r o
 
 pub returns-in_err-open_into : goal.returns-in_err-open_into
 returns-in_err-open_into g c =
@@ -29,7 +18,7 @@ returns-in_err-open_into g c =
     let p = split_is s c.in_ok-nonce.rest.now c.in_ok-text.text.now c.in_ok-text.tag.now (search rules) (search rules) (search rules) (search rules) (search rules) in
     let pt = ap (λ (y : Sealed). y.text) p in
     let pg = ap (λ (y : Sealed). y.tag) p in
-    let u = refuses_by f a s out c.open_into.new.out c.in_ok-nonce.nonce.now _ e (law.tags c.args.keyed.now.cipher.now k) c.in_err-open_into.ensures (cc) (search rules) (search rules) in
+    let u = text_refuses f a s out c.open_into.new.out c.in_ok-nonce.nonce.now _ e (law.tags c.args.keyed.now.cipher.now k) c.in_err-open_into.ensures (cc) (search rules) (search rules) in
     let t = subst (λ (x : Result ℕ CipherError). TextOpened f a s out x c.open_into.new.out) (sym r) u in
     record {
       answer = t;
@@ -48,7 +37,7 @@ returns g c =
     let pt = ap (λ (y : Sealed). y.text) p in
     let pg = ap (λ (y : Sealed). y.tag) p in
     let t : (m : ℕ) → m ≡ length c.in_ok-text.text.now → TextOpened f a s out (Ok m) c.open_into.new.out =
-    λ m w. opens_by f a s out c.open_into.new.out c.in_ok-nonce.nonce.now _ m c.in_ok-open_into.ensures (cc) (cc) (search rules) (search rules) in
+    λ m w. text_opens f a s out c.open_into.new.out c.in_ok-nonce.nonce.now _ m c.in_ok-open_into.ensures (cc) (cc) (search rules) (search rules) in
     record {
       answer = t _ (search rules);
       back = sealed_opens f a s out c.open_into.new.out (law.tags c.args.keyed.now.cipher.now k) (law.keeps c.args.keyed.now.cipher.now k) (law.one c.args.keyed.now.cipher.now k) (Ok _) (t _ (search rules));
